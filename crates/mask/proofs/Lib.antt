@@ -1,0 +1,8 @@
+-- Tests as types: what a Bool that holds gives, and what shows it.
+pub mod Logic
+-- Laws of tests over a range.
+pub mod Range
+-- Laws of `bit` under every operation.
+pub mod Bits
+-- Laws of masks: made of a test, empty, taken apart.
+pub mod Masks

@@ -1,0 +1,46 @@
+-- Tests as types. `T b` of the kit is the type that holds where b is true; these lemmas go between it and equations.
+use mathlib.Core.Path.{_≡_, refl}
+use mathlib.Core.Bool.{Bool, true, false, not, _&&_, _||_}
+use Prim.Native.Nat.{ℕ, _<_, _≤_}
+use native.Mathlib.Omega.{arith}
+use native.Mathlib.Decide.{ℕ-discrete, decLt}
+use lib.Dec.{T}
+
+-- Two tests that follow from each other are equal.
+pub same : (a b : Bool) → (T a → T b) → (T b → T a) → a ≡ b
+same true true f g = refl
+same true false f g = absurd (f tt)
+same false true f g = absurd (g tt)
+same false false f g = refl
+
+-- A test that holds is true, one that cannot is false, one that is false does not hold.
+pub holds : {b : Bool} → T b → b ≡ true
+holds {b = true} t = refl
+holds {b = false} t = absurd t
+
+pub fails : {b : Bool} → (T b → ⊥) → b ≡ false
+fails {b = true} f = absurd (f tt)
+fails {b = false} f = refl
+
+pub clash : {b : Bool} → b ≡ false → T b → ⊥
+clash e t = rw e at t
+
+-- Cases: on a test, on an equation of numbers, on their order.
+pub test : {A : Type 0} (b : Bool) → (T b → A) → (b ≡ false → A) → A
+test true f g = f tt
+test false f g = g refl
+
+pub by-eq : {A : Type 0} (m n : ℕ) → (m ≡ n → A) → (¬ (m ≡ n) → A) → A
+by-eq m n f g = elim (ℕ-discrete m n) [ yes e ↦ f e | no d ↦ g d ]
+
+pub by-lt : {A : Type 0} (m n : ℕ) → (m < n → A) → (n ≤ m → A) → A
+by-lt m n f g = elim (decLt m n) [ yes e ↦ f e | no d ↦ g (omega arith) ]
+
+-- A conjunction and its parts.
+pub and-in : (a b : Bool) → T a → T b → T (a && b)
+and-in true b s t = t
+and-in false b s t = s
+
+pub and-out : (a b : Bool) → T (a && b) → T a × T b
+and-out true b t = (tt, t)
+and-out false b t = absurd t

@@ -1,0 +1,90 @@
+-- Laws of masks: made of a test, and read back from one; empty; met with a complement.
+use mathlib.Core.Path.{_≡_, refl, sym, ap, ap₂, _∙_}
+use mathlib.Core.Bool.{Bool, true, false, cond, not, _&&_, _||_, or-false, or-true}
+use Prim.Native.Nat.{ℕ, zero, suc, _+_, _-_, _/_, _%_, _^_, _≤_, _<_}
+use native.Mathlib.Nat.{le-refl, pow-suc, lt-of-le-of-lt}
+use native.Mathlib.Decide.{ℕ-discrete}
+use native.Mathlib.Numerals.{add-one}
+use native.Mathlib.Omega.{arith}
+use lib.Dec.{T, eqb}
+use lib.Bits.{bitAnd, bitOr, or-lt, xor-lt, and-le-l}
+use lib.Pow.{pow-lt}
+use borrow.Author.Tests.{eq-eqb, ne-eqb}
+use Rattle.mask.specs.Range.{some}
+use Rattle.mask.specs.Mask.{bit, maskOf, diff}
+use Rattle.mask.proofs.Logic.{holds, fails, clash, test}
+use Rattle.mask.proofs.Range.{some-out, some-in}
+use Rattle.mask.proofs.Bits.{bit-or, bit-single, bit-of-zero, bit-none, bit-high, bit-suc, bit-zero, bit-ext, bit-and, bit-diff}
+
+-- The bits of a mask that is made of a test.
+pub maskOf-lt : (n : ℕ) (p : ℕ → Bool) → maskOf n p < 2 ^ n
+unfolding maskOf
+maskOf-lt zero p = le-refl 1
+maskOf-lt (suc n) p = go (p n) (maskOf-lt n p)
+  where
+    go : (b : Bool) → maskOf n p < 2 ^ n → cond b (bitOr (maskOf n p) (2 ^ n)) (maskOf n p) < 2 ^ suc n
+    go true h = let l : 2 ^ n < 2 ^ suc n = pow-lt (le-refl (suc n)) in or-lt (suc n) (maskOf n p) (2 ^ n) (omega arith) l
+    go false h = let l : 2 ^ n < 2 ^ suc n = pow-lt (le-refl (suc n)) in omega arith
+
+pub bit-maskOf : (n : ℕ) (p : ℕ → Bool) (k : ℕ) → k < n → bit (maskOf n p) k ≡ p k
+unfolding maskOf
+bit-maskOf zero p k h = absurd (omega arith)
+bit-maskOf (suc n) p k h = go (ℕ-discrete k n) (p n) refl (λ l. bit-maskOf n p k l)
+  where
+    go : Dec (k ≡ n) → (b : Bool) → p n ≡ b → (k < n → bit (maskOf n p) k ≡ p k) → bit (cond b (bitOr (maskOf n p) (2 ^ n)) (maskOf n p)) k ≡ p k
+    go (yes d) true e r = bit-or (maskOf n p) (2 ^ n) k ∙ rw (bit-single n k, eq-eqb k n d, or-true (bit (maskOf n p) k)) (sym (ap p d ∙ e))
+    go (yes d) false e r = bit-high n (maskOf n p) k (maskOf-lt n p) (omega arith) ∙ sym (ap p d ∙ e)
+    go (no d) true e r = bit-or (maskOf n p) (2 ^ n) k ∙ rw (bit-single n k, ne-eqb k n d, or-false (bit (maskOf n p) k)) (r (omega arith))
+    go (no d) false e r = r (omega arith)
+
+-- One turn of a loop that makes a mask.
+module _ (p : ℕ → Bool) (a w : ℕ) (e : w ≡ maskOf a p) where
+  pub mask-in : p a ≡ true → bitOr w (2 ^ a) ≡ maskOf (a + 1) p
+  unfolding maskOf
+  mask-in t = rw (add-one, t) (ap (λ (x : ℕ). bitOr x (2 ^ a)) e)
+
+  pub mask-out : p a ≡ false → w ≡ maskOf (a + 1) p
+  unfolding maskOf
+  mask-out t = rw (add-one, t) e
+
+-- The complement within n places.
+pub bit-not : (n w k : ℕ) → w < 2 ^ n → k < n → bit (2 ^ n - 1 - w) k ≡ not (bit w k)
+bit-not zero w k h l = absurd (omega arith)
+bit-not (suc n) w zero h l =
+    bit-zero (2 ^ suc n - 1 - w) ∙ flip (w % 2) ((2 ^ suc n - 1 - w) % 2) (let p = pow-suc 2 n in omega arith) (let p = pow-suc 2 n in omega arith) ∙ sym (ap not (bit-zero w))
+  where
+    flip : (x y : ℕ) → x < 2 → y ≡ 1 - x → eqb y 1 ≡ not (eqb x 1)
+    flip zero y h e = rw e refl
+    flip (suc zero) y h e = rw e refl
+    flip (suc (suc x)) y h e = absurd (omega arith)
+bit-not (suc n) w (suc k) h l =
+    bit-suc (2 ^ suc n - 1 - w) k ∙ ap (λ (m : ℕ). bit m k) half ∙ bit-not n (w / 2) k (let p = pow-suc 2 n in omega arith) (omega arith) ∙ sym (ap not (bit-suc w k))
+  where
+    half : (2 ^ suc n - 1 - w) / 2 ≡ 2 ^ n - 1 - w / 2
+    half = let p = pow-suc 2 n in omega arith
+
+-- Less is no wider, and is the meet with the complement.
+pub diff-lt : (n m w : ℕ) → m < 2 ^ n → diff m w < 2 ^ n
+unfolding diff
+diff-lt n m w h = xor-lt n m (bitAnd m w) h (lt-of-le-of-lt (and-le-l m w) h)
+
+pub and-not : (n m w : ℕ) → m < 2 ^ n → w < 2 ^ n → bitAnd m (2 ^ n - 1 - w) ≡ diff m w
+and-not n m w hm hw =
+    bit-ext n (bitAnd m (2 ^ n - 1 - w)) (diff m w) (lt-of-le-of-lt (and-le-l m (2 ^ n - 1 - w)) hm) (diff-lt n m w hm)
+    (λ k l. bit-and m (2 ^ n - 1 - w) k ∙ ap (λ (b : Bool). bit m k && b) (bit-not n w k hw l) ∙ sym (bit-diff m w k))
+
+-- Masks made of tests: met, and made of a mask's own bits.
+pub maskOf-and : (n : ℕ) (p q : ℕ → Bool) → bitAnd (maskOf n p) (maskOf n q) ≡ maskOf n (λ (k : ℕ). p k && q k)
+maskOf-and n p q =
+    bit-ext n _ _ (lt-of-le-of-lt (and-le-l (maskOf n p) (maskOf n q)) (maskOf-lt n p)) (maskOf-lt n _) (λ k h.
+    bit-and (maskOf n p) (maskOf n q) k ∙ ap₂ _&&_ (bit-maskOf n p k h) (bit-maskOf n q k h) ∙ sym (bit-maskOf n (λ (k : ℕ). p k && q k) k h))
+
+pub maskOf-bits : (n m : ℕ) → m < 2 ^ n → m ≡ maskOf n (bit m)
+maskOf-bits n m h = bit-ext n m (maskOf n (bit m)) h (maskOf-lt n (bit m)) (λ k l. sym (bit-maskOf n (bit m) k l))
+
+-- A mask of n places is empty where it holds nothing.
+pub empty-some : (n m : ℕ) → m < 2 ^ n → eqb m 0 ≡ not (some n (bit m) (λ k. true))
+empty-some n m h =
+    test (some n (bit m) (λ k. true))
+    (λ t. let w = some-out n (bit m) (λ k. true) t in rw (holds {b = some n (bit m) (λ k. true)} t) (ne-eqb m 0 (λ z. clash (ap (λ (x : ℕ). bit x (w .0)) z ∙ bit-of-zero (w .0)) (w .2))))
+    (λ e. rw e (eq-eqb m 0 (bit-none n m h (λ k l. fails λ t. clash e (some-in n (bit m) (λ k. true) k l t tt)))))

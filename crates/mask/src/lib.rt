@@ -1,0 +1,82 @@
+// Sets of values as masks: bit k of a mask stands for value k. A domain is a mask of 16 bits, the universal variables
+// of a problem are one of 32. Every function here is for the other crates of this repository.
+ghost use mathlib.Core.Path.{_≡_};
+ghost use Prim.Native.Nat.{_<_, _^_};
+ghost use lib.Bits.{bitAnd, bitOr};
+ghost use lib.Dec.{eqb};
+ghost use Rattle.mask.specs.Range.{count, first};
+ghost use Rattle.mask.specs.Mask.{bit, diff};
+
+// Whether the mask holds value k.
+pub fn contains(m: u16, k: usize) -> bool
+    requires { ⌜ k < 16 ⌝ }
+    ensures { λ r. ⌜ r ≡ bit m k ⌝ }
+{
+    (m >> k) % 2 == 1
+}
+
+// The same for a mask of 32 bits.
+pub fn contains_32(m: u32, k: usize) -> bool
+    requires { ⌜ k < 32 ⌝ }
+    ensures { λ r. ⌜ r ≡ bit m k ⌝ }
+{
+    (m >> k) % 2 == 1
+}
+
+// The mask of value k alone.
+pub fn single(k: usize) -> u16
+    requires { ⌜ k < 16 ⌝ }
+    ensures { λ r. ⌜ r ≡ 2 ^ k ⌝ }
+{
+    1 << k
+}
+
+// The same for a mask of 32 bits.
+pub fn single_32(k: usize) -> u32
+    requires { ⌜ k < 32 ⌝ }
+    ensures { λ r. ⌜ r ≡ 2 ^ k ⌝ }
+{
+    1 << k
+}
+
+// The values that both masks hold.
+pub fn meet(m: u16, w: u16) -> u16
+    ensures { λ r. ⌜ r ≡ bitAnd m w ⌝ }
+{
+    m & w
+}
+
+// The values that either mask holds.
+pub fn join(m: u16, w: u16) -> u16
+    ensures { λ r. ⌜ r ≡ bitOr m w ⌝ }
+{
+    m | w
+}
+
+// The values of m that w lacks.
+pub fn difference(m: u16, w: u16) -> u16
+    ensures { λ r. ⌜ r ≡ diff m w ⌝ }
+{
+    m ^ (m & w)
+}
+
+// Whether the mask holds no value.
+pub fn is_empty(m: u16) -> bool
+    ensures { λ r. ⌜ r ≡ eqb m 0 ⌝ }
+{
+    m == 0
+}
+
+// How many values the mask holds.
+pub fn count_of(m: u16) -> u32
+    ensures { λ r. ⌜ r ≡ count 16 (bit m) ⌝ }
+{
+    u16::count_ones(m)
+}
+
+// The smallest value of the mask, or 16 where it is empty.
+pub fn lowest(m: u16) -> u32
+    ensures { λ r. ⌜ r ≡ first 16 (bit m) ⌝ }
+{
+    u16::trailing_zeros(m)
+}
