@@ -18,6 +18,9 @@ pub holds : {b : Bool} → T b → b ≡ true
 holds {b = true} t = refl
 holds {b = false} t = absurd t
 
+pub true-holds : {b : Bool} → b ≡ true → T b
+true-holds e = rw e tt
+
 pub fails : {b : Bool} → (T b → ⊥) → b ≡ false
 fails {b = true} f = absurd (f tt)
 fails {b = false} f = refl

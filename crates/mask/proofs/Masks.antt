@@ -6,14 +6,14 @@ use native.Mathlib.Nat.{le-refl, pow-suc, lt-of-le-of-lt}
 use native.Mathlib.Decide.{ℕ-discrete}
 use native.Mathlib.Numerals.{add-one}
 use native.Mathlib.Omega.{arith}
-use lib.Dec.{T, eqb}
+use lib.Dec.{T, eqb, eqb→eq}
 use lib.Bits.{bitAnd, bitOr, or-lt, xor-lt, and-le-l}
 use lib.Pow.{pow-lt}
 use borrow.Author.Tests.{eq-eqb, ne-eqb}
-use Rattle.mask.specs.Range.{some}
+use Rattle.mask.specs.Range.{some, each}
 use Rattle.mask.specs.Mask.{bit, maskOf, diff}
-use Rattle.mask.proofs.Logic.{holds, fails, clash, test}
-use Rattle.mask.proofs.Range.{some-out, some-in}
+use Rattle.mask.proofs.Logic.{same, holds, true-holds, fails, clash, test, and-out, and-in}
+use Rattle.mask.proofs.Range.{some-out, some-in, each-out, each-in}
 use Rattle.mask.proofs.Bits.{bit-or, bit-single, bit-of-zero, bit-none, bit-high, bit-suc, bit-zero, bit-ext, bit-and, bit-diff}
 
 -- The bits of a mask that is made of a test.
@@ -88,3 +88,20 @@ empty-some n m h =
     test (some n (bit m) (λ k. true))
     (λ t. let w = some-out n (bit m) (λ k. true) t in rw (holds {b = some n (bit m) (λ k. true)} t) (ne-eqb m 0 (λ z. clash (ap (λ (x : ℕ). bit x (w .0)) z ∙ bit-of-zero (w .0)) (w .2))))
     (λ e. rw e (eq-eqb m 0 (bit-none n m h (λ k l. fails λ t. clash e (some-in n (bit m) (λ k. true) k l t tt)))))
+
+-- A mask of n places lies within w where its meet with w is itself, and in nothing where it is empty.
+pub within-each : (n m w : ℕ) → m < 2 ^ n → eqb (bitAnd m w) m ≡ each n (bit m) (bit w)
+within-each n m w h =
+    same (eqb (bitAnd m w) m) (each n (bit m) (bit w))
+    (λ t. each-in n (bit m) (bit w) λ k l b. and-out (bit m k) (bit w k) (rw (← (bit-and m w k), eqb→eq (bitAnd m w) m t) b) .1)
+    (λ t. true-holds (eq-eqb (bitAnd m w) m (bit-ext n (bitAnd m w) m (lt-of-le-of-lt (and-le-l m w) h) h λ k l. bit-and m w k ∙ keep (bit m k) (bit w k) (each-out n (bit m) (bit w) t k l))))
+  where
+    keep : (a b : Bool) → (T a → T b) → (a && b) ≡ a
+    keep true b f = holds (f tt)
+    keep false b f = refl
+
+pub empty-each : (n m : ℕ) → m < 2 ^ n → eqb m 0 ≡ each n (bit m) (λ k. false)
+empty-each n m h =
+    same (eqb m 0) (each n (bit m) (λ k. false))
+    (λ t. each-in n (bit m) (λ k. false) λ k l b. clash (ap (λ (x : ℕ). bit x k) (eqb→eq m 0 t) ∙ bit-of-zero k) b)
+    (λ t. true-holds (eq-eqb m 0 (bit-none n m h λ k l. fails (each-out n (bit m) (λ k. false) t k l))))

@@ -4,7 +4,7 @@ ghost use mathlib.Core.Path.{_≡_};
 ghost use Prim.Native.Nat.{_<_, _^_};
 ghost use lib.Bits.{bitAnd, bitOr};
 ghost use lib.Dec.{eqb};
-ghost use Rattle.mask.specs.Range.{count, first};
+ghost use Rattle.mask.specs.Range.{each, count, first};
 ghost use Rattle.mask.specs.Mask.{bit, diff};
 
 // Whether the mask holds value k.
@@ -58,6 +58,13 @@ pub fn difference(m: u16, w: u16) -> u16
     ensures { λ r. ⌜ r ≡ diff m w ⌝ }
 {
     m ^ (m & w)
+}
+
+// Whether w holds every value of m.
+pub fn within(m: u16, w: u16) -> bool
+    ensures { λ r. ⌜ r ≡ each 16 (bit m) (bit w) ⌝ }
+{
+    m & w == m
 }
 
 // Whether the mask holds no value.

@@ -1,5 +1,5 @@
-use Rattle.mask.proofs.Bits.{shl-one}
 use borrow.Author.Needs.{needs}
+use Rattle.mask.proofs.Bits.{shl-one}
 use Rattle.mask.proofs.single.Statement.{statement}
 use Rattle.mask.proofs.single.Tie as tie
 

@@ -1,0 +1,54 @@
+-- What reading tells: of an accepted file n, m, the rule set or none, the universal bits and the domains; else the number and the
+-- place, "Nothing else is returned".
+use Prim.Native.Nat.{ℕ, zero, suc}
+use mathlib.Core.List.{List, [], _∷_, _++_}
+use lib.ListN.{set, replicate}
+use Rattle.mask.specs.Mask.{maskOf}
+use Rattle.refusal.specs.declared.Verdict.{Verdict}
+use Rattle.refusal.specs.declared.Verdict.the-variants.{Fine}
+use Rattle.refusal.specs.declared.Verdict.the-variants.{Refused as Not}
+use Rattle.refusal.specs.Told.{Told, replied, refusedAt}
+use Rattle.problem_file.specs.declared.Rules.{Rules}
+use Rattle.problem_file.specs.declared.Rules.the-variants.{Absent, Given}
+use Rattle.problem_file.specs.declared.Header.{Header}
+use Rattle.problem_file.specs.declared.Header.the-variants.{Accepted, Refused}
+use Rattle.problem_file.specs.Layout.{nOf, mOf, rulesOf, variablesAt, domainAt, universalAt}
+use Rattle.problem_file.specs.Records.{verdictOf}
+
+-- The rule set's number, if there is one.
+unfoldable pub ruleNumbers : Rules → List ℕ
+ruleNumbers Absent = []
+ruleNumbers (Given k) = k ∷ []
+
+-- The numbers of a header.
+unfoldable pub headerNumbers : ℕ → ℕ → Rules → ℕ → List ℕ
+headerNumbers n m rules universal = n ∷ m ∷ universal ∷ ruleNumbers rules
+
+-- Each case of the answer in document 01's numbers.
+unfoldable pub told : Header → Told
+told (Accepted n m rules universal) = replied (headerNumbers n m rules universal)
+told (Refused e p) = refusedAt e p
+
+-- The universal variables among the first n, as bits.
+unfoldable pub universalBits : List ℕ → ℕ → ℕ → ℕ
+universalBits f b n = maskOf n (universalAt f b)
+
+-- The first k domains of 32, the others zero.
+unfoldable pub domainsTo : List ℕ → ℕ → ℕ → List ℕ
+domainsTo f b zero = replicate 32 0
+domainsTo f b (suc k) = set (domainsTo f b k) k (domainAt f b k)
+
+unfoldable pub headerFor : Verdict → List ℕ → Told
+headerFor Fine f = replied (headerNumbers (nOf f) (mOf f) (rulesOf f) (universalBits f (variablesAt f) (nOf f)))
+headerFor (Not e p) f = refusedAt e p
+
+unfoldable pub domainsFor : Verdict → List ℕ → List ℕ
+domainsFor Fine f = domainsTo f (variablesAt f) (nOf f)
+domainsFor (Not e p) f = replicate 32 0
+
+-- What the header tells, and the domains.
+unfoldable pub headerOf : List ℕ → Told
+headerOf f = headerFor (verdictOf f) f
+
+unfoldable pub domainsOf : List ℕ → List ℕ
+domainsOf f = domainsFor (verdictOf f) f

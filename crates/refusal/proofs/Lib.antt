@@ -1,0 +1,2 @@
+-- Laws of chained tests.
+pub mod Chain
