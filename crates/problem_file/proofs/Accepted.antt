@@ -16,15 +16,15 @@ use Rattle.refusal.specs.declared.Verdict.the-variants.{Fine}
 use Rattle.refusal.specs.declared.Verdict.the-variants.{Refused as Not}
 use Rattle.refusal.specs.Told.{Told, replied, refusedAt}
 use Rattle.refusal.proofs.Chain.{then-fine, then-ok}
-use Rattle.problem_file.specs.declared.Rules.{Rules}
-use Rattle.problem_file.specs.declared.Rules.the-variants.{Absent, Given}
+use Rattle.file_layout.specs.declared.Rules.{Rules}
+use Rattle.file_layout.specs.declared.Rules.the-variants.{Absent, Given}
 use Rattle.problem_file.specs.declared.Header.{Header}
 use Rattle.problem_file.specs.declared.Header.the-variants.{Accepted as Shown, Refused}
-use Rattle.problem_file.specs.Layout.{byte, marked, QP, EN, nOf, mOf, hasRules, rulesOf, variablesAt, domainAt, universalAt, constraintsAt, afterConstraints}
-use Rattle.problem_file.specs.Records.{lastPair, restTest, verdictOf}
+use Rattle.file_layout.specs.Layout.{byte, marked, QP, EN, nOf, mOf, hasRules, rulesOf, variablesAt, domainAt, universalAt, constraintsAt, afterConstraints}
+use Rattle.file_records.specs.Records.{lastPair, restTest, verdictOf}
 use Rattle.problem_file.specs.Reading.{ruleNumbers, headerNumbers, told, universalBits, domainsTo, headerFor, domainsFor, headerOf, domainsOf}
-use Rattle.problem_file.proofs.NumberLaws.{Counts}
-use Rattle.problem_file.proofs.RecordLaws.{Head, Variable, Constraint, qp-out, qp-in, rs-out, rs-in, variables-out, variables-in, constraints-out, constraints-in, en-out, en-in, start-least}
+use Rattle.file_layout.proofs.NumberLaws.{Counts}
+use Rattle.file_records.proofs.RecordLaws.{Head, Variable, Constraint, qp-out, qp-in, rs-out, rs-in, variables-out, variables-in, constraints-out, constraints-in, en-out, en-in}
 
 -- What holds of an accepted file.
 pub record Accepted (f : List ℕ) : Type 0 where

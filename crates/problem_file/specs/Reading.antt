@@ -8,12 +8,12 @@ use Rattle.refusal.specs.declared.Verdict.{Verdict}
 use Rattle.refusal.specs.declared.Verdict.the-variants.{Fine}
 use Rattle.refusal.specs.declared.Verdict.the-variants.{Refused as Not}
 use Rattle.refusal.specs.Told.{Told, replied, refusedAt}
-use Rattle.problem_file.specs.declared.Rules.{Rules}
-use Rattle.problem_file.specs.declared.Rules.the-variants.{Absent, Given}
+use Rattle.file_layout.specs.declared.Rules.{Rules}
+use Rattle.file_layout.specs.declared.Rules.the-variants.{Absent, Given}
 use Rattle.problem_file.specs.declared.Header.{Header}
 use Rattle.problem_file.specs.declared.Header.the-variants.{Accepted, Refused}
-use Rattle.problem_file.specs.Layout.{nOf, mOf, rulesOf, variablesAt, domainAt, universalAt}
-use Rattle.problem_file.specs.Records.{verdictOf}
+use Rattle.file_layout.specs.Layout.{nOf, mOf, rulesOf, variablesAt, domainAt, universalAt}
+use Rattle.file_records.specs.Records.{verdictOf}
 
 -- The rule set's number, if there is one.
 unfoldable pub ruleNumbers : Rules → List ℕ

@@ -1,33 +1,20 @@
 // The reader of problem files (document 01, "The job file"). It takes exactly the files of the layout and tells a
-// refused one's number and place. `read` is open to callers; every other public function is for the crates named at it.
+// refused one's number and place. `read` is open to callers.
 ghost use mathlib.Core.Path.{_≡_};
 ghost use Rattle.problem_file.specs.Reading.{told, headerOf, domainsOf};
 
-mod bytes;
-mod constraints;
-mod head;
-mod numbers;
-mod variables;
+mod values;
 mod whole;
 
-pub use bytes::byte_at;
-pub use bytes::word_at;
-pub use constraints::pair_at;
-use head::rules_at;
-pub use head::variables_at;
-pub use numbers::counts_fit;
-pub use numbers::in_order;
-pub use numbers::row_fits;
+use file_layout::Rules;
+use file_layout::byte_at;
+use file_layout::rules_at;
+use file_layout::variables_at;
+use file_layout::word_at;
 use refusal::Verdict;
-use variables::domains;
-use variables::universal_bits;
+use values::domains;
+use values::universal_bits;
 pub use whole::check_file;
-
-// A rule set's number, or none.
-pub enum Rules {
-    Absent,
-    Given(u8),
-}
 
 // What reading answers beside the domains: n, m, the rule set and the universal bits; or a refusal's number and place.
 pub enum Header {

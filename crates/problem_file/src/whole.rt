@@ -1,27 +1,17 @@
-// The record EN, and the whole file.
+// The whole file: its records one behind another.
 ghost use mathlib.Core.Path.{_≡_};
 ghost use Prim.Native.Nat.{_≤_};
-ghost use Rattle.problem_file.specs.Records.{enTest, restTest, verdictOf};
-use crate::bytes::byte_at;
-use crate::bytes::is_marked;
-use crate::bytes::opened_at;
-use crate::bytes::word_at;
-use crate::constraints::constraints_test;
-use crate::head::qp_test;
-use crate::head::rs_test;
-use crate::head::variables_at;
-use crate::variables::variables_test;
+ghost use Rattle.file_records.specs.Records.{restTest, verdictOf};
+use file_layout::byte_at;
+use file_layout::variables_at;
+use file_layout::word_at;
+use file_records::constraints_test;
+use file_records::en_test;
+use file_records::qp_test;
+use file_records::rs_test;
+use file_records::variables_test;
 use refusal::Verdict;
 use refusal::first;
-use refusal::needed;
-
-fn en_test(f: &[u8], p: usize) -> Verdict
-    requires { ⌜ p ≤ 65535 ⌝ }
-    ensures { λ r. ⌜ r ≡ enTest (now (f .entry)) p ⌝ }
-{
-    let o = opened_at(f, p, is_marked(f, p, b"EN"), 0);
-    first(o, needed(f.len() <= p + 2, 9, p + 2))
-}
 
 // The records behind QP and RS.
 fn rest_test(f: &[u8], b: usize, n: usize, m: usize) -> Verdict

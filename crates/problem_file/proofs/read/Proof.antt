@@ -4,9 +4,9 @@ use mathlib.Core.Path.{_≡_, sym, _∙_}
 use native.Mathlib.Omega.{arith}
 use Rattle.refusal.specs.declared.Verdict.the-variants.{Fine}
 use Rattle.problem_file.proofs.Accepted.{accepted, file-length, header-is, domains-is}
-use Rattle.problem_file.proofs.RecordLaws.{start-most}
+use Rattle.file_layout.proofs.LayoutLaws.{start-most}
 use Rattle.problem_file.specs.Reading.{told, headerFor, domainsFor}
-use Rattle.problem_file.specs.Records.{verdictOf}
+use Rattle.file_records.specs.Records.{verdictOf}
 use Rattle.problem_file.proofs.read.Statement.{statement}
 use Rattle.problem_file.proofs.read.Tie as tie
 

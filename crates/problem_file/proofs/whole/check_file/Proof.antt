@@ -3,9 +3,10 @@ use denote.Ref.{now}
 use mathlib.Core.Path.{sym, _∙_}
 use native.Mathlib.Omega.{arith}
 use Rattle.refusal.proofs.Chain.{stop, go}
-use Rattle.problem_file.proofs.NumberLaws.{constraints-most}
-use Rattle.problem_file.proofs.RecordLaws.{Head, qp-out, start-most}
-use Rattle.problem_file.specs.Records.{verdictOf}
+use Rattle.file_layout.proofs.NumberLaws.{constraints-most}
+use Rattle.file_records.proofs.RecordLaws.{Head, qp-out}
+use Rattle.file_layout.proofs.LayoutLaws.{start-most}
+use Rattle.file_records.specs.Records.{verdictOf}
 use Rattle.problem_file.proofs.whole.check_file.Statement.{statement}
 use Rattle.problem_file.proofs.whole.check_file.Tie as tie
 

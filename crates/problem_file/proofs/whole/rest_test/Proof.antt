@@ -2,8 +2,8 @@ use borrow.Author.Needs.{needs}
 use mathlib.Core.Path.{sym, _∙_}
 use native.Mathlib.Omega.{arith}
 use Rattle.refusal.proofs.Chain.{stop, go}
-use Rattle.problem_file.proofs.RecordLaws.{variables-within}
-use Rattle.problem_file.specs.Records.{restTest}
+use Rattle.file_records.proofs.RecordLaws.{variables-within}
+use Rattle.file_records.specs.Records.{restTest}
 use Rattle.problem_file.proofs.whole.rest_test.Statement.{statement}
 use Rattle.problem_file.proofs.whole.rest_test.Tie as tie
 

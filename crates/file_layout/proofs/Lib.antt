@@ -1,0 +1,4 @@
+-- Laws of a problem's numbers: counts, pairs and rows.
+pub mod NumberLaws
+-- Laws of marks, of a record's beginning, and of where the variables begin.
+pub mod LayoutLaws

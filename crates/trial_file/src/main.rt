@@ -1,0 +1,65 @@
+// Runs reader, look-up and writer over shared files (stdin: the number of cases, then for each a file, the number of its
+// refusal, 0 for an accepted file, and the place), and the reader over document 01's boundary rows.
+mod back;
+mod boundary;
+mod pairs;
+mod reading;
+
+use vectors::Tally;
+use vectors::byte;
+use vectors::counted;
+use vectors::moved;
+use vectors::none_yet;
+use vectors::part;
+use vectors::place;
+use vectors::report;
+use vectors::word;
+
+// One file in one trial. 0 compares what reading tells; of an accepted file, 1 looks up every pair, 2 writes it back.
+fn tried(f: &[u8], trial: usize, number: usize, w: usize, t: Tally) -> Tally {
+    if trial == 0 {
+        return counted(t, reading::agrees(f, number, w));
+    }
+    if number != 0 {
+        return t;
+    }
+    if trial == 1 {
+        return pairs::all_pairs(f, t);
+    }
+    counted(t, back::comes_back(f))
+}
+
+fn one_case(s: &[u8], trial: usize, t: Tally) -> Tally {
+    let at = place(t.at);
+    let length = word(s, at);
+    let p = at + 2 + length;
+    let u = tried(
+        part(s, at + 2, length),
+        trial,
+        byte(s, p),
+        word(s, p + 1),
+        t,
+    );
+    moved(u, p + 3)
+}
+
+fn all_cases(s: &[u8], trial: usize) -> Tally {
+    let count = word(s, 0);
+    let mut t = none_yet();
+    let mut k = 0;
+    while k < count {
+        t = one_case(s, trial, t);
+        k += 1;
+    }
+    t
+}
+
+fn main() {
+    let mut room = [0u8; 524288];
+    let n = io::read_full(0, &mut room);
+    let s = &room[..n];
+    report(b"reading cases ", all_cases(s, 0));
+    report(b"pairs looked up ", all_cases(s, 1));
+    report(b"files written back ", all_cases(s, 2));
+    report(b"boundary rows ", boundary::all_rows());
+}
