@@ -47,3 +47,16 @@ and-in false b s t = s
 pub and-out : (a b : Bool) → T (a && b) → T a × T b
 and-out true b t = (tt, t)
 and-out false b t = absurd t
+
+-- A disjunction from its left part, from its right part, and taken apart.
+pub or-left : (a b : Bool) → T a → T (a || b)
+or-left true b t = tt
+or-left false b t = absurd t
+
+pub or-right : (a b : Bool) → T b → T (a || b)
+or-right true b t = tt
+or-right false b t = t
+
+pub or-out : {A : Type 0} (a b : Bool) → T (a || b) → (T a → A) → (T b → A) → A
+or-out true b t f g = f tt
+or-out false b t f g = g t

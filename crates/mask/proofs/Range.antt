@@ -90,3 +90,14 @@ first-least (suc n) p (suc k) h = go (p zero) (first-least n (λ (j : ℕ). p (s
     go : (b : Bool) → (k < first n (λ (j : ℕ). p (suc j)) → p (suc k) ≡ false) → suc k < cond b zero (suc (first n (λ (j : ℕ). p (suc j)))) → p (suc k) ≡ false
     go true r h = absurd (omega arith)
     go false r h = r (omega arith)
+
+-- Where `first` is below the bound it passes.
+pub first-of : (n : ℕ) (p : ℕ → Bool) → first n p < n → T (p (first n p))
+unfolding first
+first-of zero p h = absurd (omega arith)
+first-of (suc n) p h = go (p zero) refl h (first-of n (λ (j : ℕ). p (suc j)))
+  where
+    go : (b : Bool) → p zero ≡ b → cond b zero (suc (first n (λ (j : ℕ). p (suc j)))) < suc n
+        → (first n (λ (j : ℕ). p (suc j)) < n → T (p (suc (first n (λ (j : ℕ). p (suc j)))))) → T (p (cond b zero (suc (first n (λ (j : ℕ). p (suc j))))))
+    go true e l ih = rw e tt
+    go false e l ih = ih (omega arith)
