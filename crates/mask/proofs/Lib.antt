@@ -6,3 +6,5 @@ pub mod Range
 pub mod Bits
 -- Laws of masks: made of a test, empty, taken apart.
 pub mod Masks
+-- Laws of the lowest member and the rest, for loops over the members of a mask.
+pub mod Members

@@ -79,6 +79,15 @@ maskOf-and n p q =
     bit-ext n _ _ (lt-of-le-of-lt (and-le-l (maskOf n p) (maskOf n q)) (maskOf-lt n p)) (maskOf-lt n _) (λ k h.
     bit-and (maskOf n p) (maskOf n q) k ∙ ap₂ _&&_ (bit-maskOf n p k h) (bit-maskOf n q k h) ∙ sym (bit-maskOf n (λ (k : ℕ). p k && q k) k h))
 
+pub maskOf-or : (n : ℕ) (p q : ℕ → Bool) → bitOr (maskOf n p) (maskOf n q) ≡ maskOf n (λ (k : ℕ). p k || q k)
+maskOf-or n p q =
+    bit-ext n _ _ (or-lt n (maskOf n p) (maskOf n q) (maskOf-lt n p) (maskOf-lt n q)) (maskOf-lt n _) (λ k h.
+    bit-or (maskOf n p) (maskOf n q) k ∙ ap₂ _||_ (bit-maskOf n p k h) (bit-maskOf n q k h) ∙ sym (bit-maskOf n (λ (k : ℕ). p k || q k) k h))
+
+-- Masks of tests that agree below n are equal.
+pub maskOf-same : (n : ℕ) (p q : ℕ → Bool) → ((k : ℕ) → k < n → p k ≡ q k) → maskOf n p ≡ maskOf n q
+maskOf-same n p q e = bit-ext n _ _ (maskOf-lt n p) (maskOf-lt n q) (λ k h. bit-maskOf n p k h ∙ e k h ∙ sym (bit-maskOf n q k h))
+
 pub maskOf-bits : (n m : ℕ) → m < 2 ^ n → m ≡ maskOf n (bit m)
 maskOf-bits n m h = bit-ext n m (maskOf n (bit m)) h (maskOf-lt n (bit m)) (λ k l. sym (bit-maskOf n (bit m) k l))
 

@@ -6,7 +6,7 @@ use native.Mathlib.Nat.{le-refl}
 use native.Mathlib.Omega.{arith}
 use lib.Dec.{T}
 use Rattle.mask.specs.Range.{some, each, count, first}
-use Rattle.mask.proofs.Logic.{by-eq, and-in, and-out}
+use Rattle.mask.proofs.Logic.{clash, by-eq, by-lt, and-in, and-out}
 
 -- `each` is a function, `some` a witness.
 pub each-out : (v : ℕ) (d f : ℕ → Bool) → T (each v d f) → (a : ℕ) → a < v → T (d a) → T (f a)
@@ -101,3 +101,36 @@ first-of (suc n) p h = go (p zero) refl h (first-of n (λ (j : ℕ). p (suc j)))
         → (first n (λ (j : ℕ). p (suc j)) < n → T (p (suc (first n (λ (j : ℕ). p (suc j)))))) → T (p (cond b zero (suc (first n (λ (j : ℕ). p (suc j))))))
     go true e l ih = rw e tt
     go false e l ih = ih (omega arith)
+
+-- `first` is below the bound where any number passes.
+pub first-below : (n : ℕ) (p : ℕ → Bool) (k : ℕ) → k < n → T (p k) → first n p < n
+unfolding first
+first-below zero p k h t = absurd (omega arith)
+first-below (suc n) p zero h t = go (p zero) t
+  where
+    go : (b : Bool) → T b → cond b zero (suc (first n (λ (j : ℕ). p (suc j)))) < suc n
+    go true t = omega arith
+    go false t = absurd t
+first-below (suc n) p (suc k) h t = go (p zero) (first-below n (λ (j : ℕ). p (suc j)) k (omega arith) t)
+  where
+    go : (b : Bool) → first n (λ (j : ℕ). p (suc j)) < n → cond b zero (suc (first n (λ (j : ℕ). p (suc j)))) < suc n
+    go true l = omega arith
+    go false l = omega arith
+
+-- `first` is no more than the bound, is the bound where no number passes, and is the number that passes where none before it does.
+pub first-most : (n : ℕ) (p : ℕ → Bool) → first n p ≤ n
+unfolding first
+first-most zero p = le-refl 0
+first-most (suc n) p = go (p zero) (first-most n (λ (j : ℕ). p (suc j)))
+  where
+    go : (b : Bool) → first n (λ (j : ℕ). p (suc j)) ≤ n → cond b zero (suc (first n (λ (j : ℕ). p (suc j)))) ≤ suc n
+    go true l = omega arith
+    go false l = omega arith
+
+pub first-none : (n : ℕ) (p : ℕ → Bool) → ((k : ℕ) → k < n → p k ≡ false) → first n p ≡ n
+first-none n p e = by-lt (first n p) n (λ l. absurd (clash (e (first n p) l) (first-of n p l))) (λ l. let m = first-most n p in omega arith)
+
+pub first-is : (n : ℕ) (p : ℕ → Bool) (k : ℕ) → k < n → T (p k) → ((j : ℕ) → j < k → p j ≡ false) → first n p ≡ k
+first-is n p k h t e =
+    by-lt (first n p) k (λ l. absurd (clash (e (first n p) l) (first-of n p (omega arith))))
+    λ l. by-lt k (first n p) (λ m. absurd (clash (first-least n p k m) t)) (λ m. omega arith)

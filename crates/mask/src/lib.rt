@@ -1,11 +1,11 @@
 // Sets of values as masks: bit k of a mask stands for value k. A domain is a mask of 16 bits, the universal variables
 // of a problem are one of 32. Every function here is for the other crates of this repository.
 ghost use mathlib.Core.Path.{_≡_};
-ghost use Prim.Native.Nat.{_<_, _^_};
+ghost use Prim.Native.Nat.{_<_, _≤_, _^_};
 ghost use lib.Bits.{bitAnd, bitOr};
 ghost use lib.Dec.{eqb};
 ghost use Rattle.mask.specs.Range.{each, count, first};
-ghost use Rattle.mask.specs.Mask.{bit, diff};
+ghost use Rattle.mask.specs.Mask.{bit, diff, rest, above};
 
 // Whether the mask holds value k.
 pub fn contains(m: u16, k: usize) -> bool
@@ -86,4 +86,45 @@ pub fn lowest(m: u16) -> u32
     ensures { λ r. ⌜ r ≡ first 16 (bit m) ⌝ }
 {
     u16::trailing_zeros(m)
+}
+
+// The same for a mask of 32 bits, or 32.
+pub fn lowest_32(m: u32) -> u32
+    ensures { λ r. ⌜ r ≡ first 32 (bit m) ⌝ }
+{
+    u32::trailing_zeros(m)
+}
+
+// The mask without its smallest value.
+pub fn rest_of(m: u16) -> u16
+    requires { ⌜ 1 ≤ m ⌝ }
+    ensures { λ r. ⌜ r ≡ rest m ⌝ }
+{
+    m & (m - 1)
+}
+
+// The same for a mask of 32 bits.
+pub fn rest_of_32(m: u32) -> u32
+    requires { ⌜ 1 ≤ m ⌝ }
+    ensures { λ r. ⌜ r ≡ rest m ⌝ }
+{
+    m & (m - 1)
+}
+
+// The members of the mask above k.
+pub fn members_above(m: u16, k: usize) -> u16
+    requires { ⌜ k < 16 ⌝ }
+    ensures { λ r. ⌜ r ≡ above m k ⌝ }
+{
+    let one = single(k);
+    difference(m, one + (one - 1))
+}
+
+// The same for a mask of 32 bits.
+pub fn members_above_32(m: u32, k: usize) -> u32
+    requires { ⌜ k < 32 ⌝ }
+    ensures { λ r. ⌜ r ≡ above m k ⌝ }
+{
+    let one = single_32(k);
+    m ^ (m & (one + (one - 1)))
 }

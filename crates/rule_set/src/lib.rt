@@ -31,7 +31,7 @@ impl RuleSet {
         }
     }
 
-    // The numbers of the named sets, so that the definitions and the constants cannot part.
+    // The numbers of the named sets, so that the definitions and the constants cannot part. For the crates above.
     pub fn named() -> [u8; 3]
         ensures { λ r. ⌜ r ≡ plainSet ∷ usualSet ∷ fullSet ∷ [] ⌝ }
     {

@@ -43,9 +43,7 @@ pub mod Standing
 -- Rules that are switched off.
 pub mod Sets
 -- The search ---------------------------------------------------------------------------------------------------------------------
--- Its statements, each with the sentence of document 01 that it answers.
-pub mod SearchTheorems
--- What its statements speak of: turns, revisions in any order, rule 7 in words.
+-- What the statements of the search speak of: turns, revisions in any order, rule 7 in words.
 pub mod SearchNotions
 -- Conflict sets and boxes of values: what rules 6 and 7 rest on.
 pub mod Conflict

@@ -351,6 +351,28 @@ module _ (P : Problem) where
   unfolding revisions
   revisions-closed s w = passes-closed (16 * n) s w (Closure.size-most P (domains (s .list)))
 
+  -- Passes until one changes nothing end where 16 n passes do.
+  passes-loop : (v a : ℕ) (s : Sheet) → Formed P s → passes P v s ≡ loop v a (λ _. pass P) s
+  unfolding passes loop
+  passes-loop zero a s w = refl
+  passes-loop (suc v) a s w = go (sameDomains P (pass P s .list) (s .list)) refl (pass-falls s w) (passes-loop v (suc a) (pass P s) (pass-formed s w))
+    where
+      still : (v a : ℕ) (t : Sheet) → pass P t ≡ t → loop v a (λ _. pass P) t ≡ t
+      still zero a t e = refl
+      still (suc v) a t e = ap (loop v (suc a) (λ _. pass P)) e ∙ still v (suc a) t e
+
+      go : (b : Bool) → sameDomains P (pass P s .list) (s .list) ≡ b → Falls mass (Still s) s (pass P s)
+          → passes P v (pass P s) ≡ loop v (suc a) (λ _. pass P) (pass P s)
+          → cond b (pass P s) (passes P v (pass P s)) ≡ loop v (suc a) (λ _. pass P) (pass P s)
+      go true e (inl k) ih = k .1 ∙ sym (ap (loop v (suc a) (λ _. pass P)) (k .1) ∙ still v (suc a) s (k .1))
+      go true e (inr k) ih =
+          let q = ap {B = ℕ} (λ l. size P (domains l)) (same-lists (pass P s .list) (s .list) (pass-formed s w .masks) (w .masks) (rw e tt)) in absurd (omega (arith, k, q))
+      go false e k ih = ih
+
+  pub revisions-loop : (s : Sheet) → Formed P s → revisions P s ≡ loop (16 * n) 0 (λ _. pass P) s
+  unfolding revisions
+  revisions-loop s w = passes-loop (16 * n) 0 s w
+
   -- The list -------------------------------------------------------------------------------------------------------------
   -- Revisions P in any order that leave no dead value end in rule 1's list.
   pub revisions-list : (s t : Sheet) (v : Play) → Answers P (domains (s .list)) v → Formed P s → Revisions P s t → Closed P (domains (t .list)) → t .list ≡ arc P (s .list) .list

@@ -1,4 +1,4 @@
--- The search computed: the problem on which leaner reasons break rule 6's law, G6 under rule 7, and each theorem of SearchTheorems at a small problem.
+-- The search computed: the problem on which leaner reasons break rule 6's law, G6 under rule 7, and each theorem of the search at a small problem.
 use mathlib.Core.Path.{_≡_, refl, sym}
 use mathlib.Core.Bool.{Bool, true, false, cond, not, _&&_, _||_}
 use mathlib.Core.List.{List, [], _∷_, _++_}
@@ -28,8 +28,7 @@ use Rattle.game.specs.Turn.{firstList, nextList, checks, ahead, narrowPure, nar
 use Rattle.game.specs.Reasons.{firstReasons, nextReasons, idle, chain, choose, loop, Sheet, neighbours, forwardConflict, forwardReasons, explainForward, explainChecks, kills, cause, surviving, revise, pass, sameDomains, passes, revisions, emptied, against, arcConflict, explainArc, explainAhead, explained}
 use Rattle.game.specs.Search.{Verdict, solved, failed, is-solved, handed, handUp, someValue, untried, eachValue, broken, firstBroken, leaf, solid, around, skippable, narrowNext, startSet, search, searchFrom, markedValues}
 use Rattle.theory.proofs.SearchNotions.{TurnOf, first, below, skippingTurn, Others, Formed, none}
-use Rattle.theory.proofs.SearchTheorems as Theorems
-use Rattle.theory.proofs.Theorems as Rules
+use Rattle.theory.proofs.Theorems
 use Rattle.theory.proofs.Notions.{AtTurn}
 use Rattle.theory.proofs.Small.{mkProblem, ok-bounded}
 use Rattle.theory.proofs.Samples.{G1, G6}
@@ -271,7 +270,7 @@ full-skips = Theorems.turn-skips-wins full 64 [] tt 0 [] (firstList full []) (fi
 -- Rule 1 in any order: no revision at all at the first turn of G1, where none is dead; at K after 0, 1, 1 those of the search, which end in a loss.
 g1-revisions : 3 ∷ 3 ∷ [] ≡ arc G1 (3 ∷ 3 ∷ []) .list
 unfolding searching mayLend within
-g1-revisions = Theorems.turn-revisions G1 0 [] tt 0 [] (firstList G1 []) (firstReasons 2 0) first refl (record { list = 3 ∷ 3 ∷ []; why = 0 ∷ 0 ∷ [] }) none .0 (Rules.arc-removes G1 (3 ∷ 3 ∷ []) tt .1)
+g1-revisions = Theorems.turn-revisions G1 0 [] tt 0 [] (firstList G1 []) (firstReasons 2 0) first refl (record { list = 3 ∷ 3 ∷ []; why = 0 ∷ 0 ∷ [] }) none .0 (Theorems.arc-removes G1 (3 ∷ 3 ∷ []) tt .1)
 
 abbrev k-sheet : Sheet
 k-sheet = record { list = 1 ∷ 2 ∷ 2 ∷ 7 ∷ 3 ∷ []; why = 1 ∷ 2 ∷ 4 ∷ 0 ∷ 0 ∷ [] }

@@ -1,5 +1,5 @@
 // What the trial programs share: numbers and parts of a file of vectors, a tally of cases, and the lines of a report.
-// Every read is total: a byte past the end is 0, a part that is not there is empty.
+// Every read is total: a byte past the end is 0, a part that is not there is empty. For the trial programs alone.
 ghost use Prim.Native.Nat.{_≤_, _<_};
 
 // How far a trial has come: where the next case begins, and how many cases were compared and differed.

@@ -1,0 +1,207 @@
+-- The removals of specs/Passes.antt are rule 1's: on words that hold a list and its reasons they leave words that hold `revisions` of them.
+use mathlib.Core.Path.{_≡_, refl, sym, ap, ap₂, subst, _∙_}
+use mathlib.Core.Bool.{Bool, true, false, cond, not, _&&_, _||_}
+use mathlib.Core.Logic.{_⊎_, inl, inr}
+use mathlib.Core.List.{List}
+use Prim.Native.Nat.{ℕ, zero, suc, _*_, _^_, _≤_, _<_}
+use native.Mathlib.Omega.{arith}
+use lib.Dec.{T, eqb}
+use lib.Bits.{bitAnd, bitOr}
+use lib.ListN.{getD, length, set, List·getD-eq-default}
+use borrow.Author.Tests.{eq-eqb, ne-eqb, eqb-true}
+use Rattle.mask.specs.Mask.{bit}
+use Rattle.mask.proofs.Logic.{clash, true-holds, and-out, by-lt}
+use Rattle.mask.proofs.Bits.{bit-and, bit-or, bit-diff, bit-single, bit-of-zero}
+use Rattle.mask.proofs.Masks.{bit-not}
+use Rattle.game.specs.Problem.{Problem}
+use Rattle.game.specs.Reasons.{Sheet, loop, cause, surviving, revise, pass, revisions}
+use Rattle.arrays.specs.Arrays.{States}
+use Rattle.arrays.specs.Words.{listIn, whyIn, reasonIn, putReason, holding}
+use Rattle.arrays.proofs.WordLaws.{length-listIn, length-whyIn, getD-listIn, holding-domain, holding-reason, holding-own, set-domain, set-reason}
+use Rattle.theory.proofs.SearchNotions.{Formed}
+use Rattle.theory.proofs.Revisions.{revisions-loop}
+use Rattle.arc_order.specs.Over.{over}
+use Rattle.arc_order.proofs.Loops.{loop-from, loop-beside, over-longer, over-made}
+use Rattle.arc_order.proofs.Revising.{Revised, kept, cut, revised, revise-cases}
+use Rattle.arc_order.proofs.Waiting.{turn, Sized, Ready, revise-sized, turn-sized, turn-over, turn-falls, turn-universal, ready-first, ready-look, ready-turn, ready-next, ready-none}
+use Rattle.arc_passes.specs.Passes.{leaves, causeOf, lessened, reviseIn, turnIn, lostAt, marked, Progress, progress, passIn, passesIn, everyone, removedIn}
+use Rattle.arc_passes.proofs.Support.{surviving-leaves, cause-of}
+
+-- The list and the reasons that words hold, and words with others in their places.
+abbrev pub sheetIn : ℕ → List ℕ → Sheet
+sheetIn n w = record { list = listIn n w; why = whyIn n w }
+
+abbrev pub holdingSheet : ℕ → List ℕ → Sheet → List ℕ
+holdingSheet n w s = holding n w (s .list) (s .why)
+
+-- A marked mask differs at x alone, and has x where it lost values.
+marked-off : (dirty x : ℕ) (lost : Bool) (k : ℕ) → ¬ (k ≡ x) → bit (marked dirty x lost) k ≡ bit dirty k
+unfolding marked
+marked-off dirty x true k d = bit-or dirty (2 ^ x) k ∙ rw (bit-single x k, ne-eqb k x d) (go (bit dirty k))
+  where
+    go : (b : Bool) → (b || false) ≡ b
+    go true = refl
+    go false = refl
+marked-off dirty x false k d = bit-diff dirty (2 ^ x) k ∙ rw (bit-single x k, ne-eqb k x d) (go (bit dirty k))
+  where
+    go : (b : Bool) → (b && true) ≡ b
+    go true = refl
+    go false = refl
+
+marked-on : (dirty x : ℕ) → T (bit (marked dirty x true) x)
+unfolding marked
+marked-on dirty x = true-holds (bit-or dirty (2 ^ x) x ∙ rw (bit-single x x, eq-eqb x x refl) (go (bit dirty x)))
+  where
+    go : (b : Bool) → (b || true) ≡ true
+    go true = refl
+    go false = refl
+
+module _ (P : Problem) (universal : ℕ) (near index rows : List ℕ) (st : States P (P .n) universal near index rows) (w : List ℕ) (long : 96 ≤ length w) where
+  open Problem P using (n, constrained)
+
+  -- The words w with a list and its reasons in their places.
+  abbrev put : Sheet → List ℕ
+  put s = holding n w (s .list) (s .why)
+
+  module _ (s : Sheet) (z : Sized P s) where
+    domain-at : (x : ℕ) → x < n → getD (put s) x 0 ≡ getD (s .list) x 0
+    domain-at x lx = holding-domain n (st .most) w long (s .list) (s .why) x lx
+
+    -- One revision.
+    module _ (x k : ℕ) (lx : x < n) (lk : k < n) where
+      mask-left : bitAnd (getD (put s) x 0) (leaves index rows universal x k (getD (put s) k 0)) ≡ surviving P (s .list) x k
+      mask-left = ap₂ (λ u v. bitAnd u (leaves index rows universal x k v)) (domain-at x lx) (domain-at k lk) ∙ sym (surviving-leaves P n universal near index rows st (s .list) x k lx lk (z .small x))
+
+      lessened-is : lessened x (surviving P (s .list) x k) (causeOf universal x k (reasonIn (put s) k)) (put s) ≡ put (revised P x k s)
+      unfolding lessened
+      lessened-is =
+          let m = surviving P (s .list) x k in
+          let c = cause P (s .why) x k in
+          ap₂ (λ v q. putReason v x (bitOr (reasonIn v x) q)) (set-domain n (st .most) w long (s .list) (s .why) (z .masks) x m lx)
+          (ap (causeOf universal x k) (holding-reason n (st .most) w long (s .list) (s .why) k lk) ∙ cause-of P n universal near index rows st (s .why) x k lk)
+          ∙ ap (λ q. putReason (holding n w (set (s .list) x m) (s .why)) x (bitOr q c)) (holding-reason n (st .most) w long (set (s .list) x m) (s .why) x lx)
+          ∙ set-reason n (st .most) w long (set (s .list) x m) (s .why) (z .reasons) x (bitOr (getD (s .why) x 0) c) lx
+
+      pub revise-holds : T (not (P .universal x)) → T (constrained x k) → reviseIn index rows universal x k (put s) ≡ put (revise P x k s)
+      unfolding reviseIn
+      revise-holds u c =
+          ap₂ (λ m v. cond (eqb m v) (put s) (lessened x m (causeOf universal x k (reasonIn (put s) k)) (put s))) mask-left (domain-at x lx)
+          ∙ go (eqb (surviving P (s .list) x k) (getD (s .list) x 0)) refl (revise P x k s) (revise-cases P x k s)
+        where
+          go : (b : Bool) → eqb (surviving P (s .list) x k) (getD (s .list) x 0) ≡ b → (r : Sheet) → Revised P x k s r
+              → cond b (put s) (lessened x (surviving P (s .list) x k) (causeOf universal x k (reasonIn (put s) k)) (put s)) ≡ put r
+          go true e r (kept h) = refl
+          go true e r (cut _ _ d) = absurd (d (eqb-true (surviving P (s .list) x k) (getD (s .list) x 0) e))
+          go false e r (kept h) = absurd (clash e (true-holds (eq-eqb (surviving P (s .list) x k) (getD (s .list) x 0) (h u c))))
+          go false e r (cut _ _ d) = lessened-is
+
+  -- The turn of a variable.
+  module _ (s : Sheet) (z : Sized P s) (all dirty x : ℕ) (lx : x < n) (ready : Ready P all dirty x s) where
+    -- The neighbours to look at.
+    abbrev look : ℕ
+    look = bitAnd (getD near x 0) (bitOr dirty all)
+
+    look-bit : (k : ℕ) → k < n → bit look k ≡ (constrained x k && (bit dirty k || bit all k))
+    look-bit k lk = bit-and (getD near x 0) (bitOr dirty all) k ∙ rw (bit-or dirty all k, st .joined x k lx lk)
+
+    look-inside : (k : ℕ) → n ≤ k → bit look k ≡ false
+    look-inside k l = bit-and (getD near x 0) (bitOr dirty all) k ∙ rw (st .inside x k lx l, bit-of-zero k)
+
+    pub turn-holds : turnIn near index rows universal (bitOr dirty all) x (put s) ≡ put (turn P x s)
+    unfolding turnIn
+    turn-holds = go (bit universal x) (st .side x lx)
+      where
+        f : ℕ → List ℕ → List ℕ
+        f k = reviseIn index rows universal x k
+
+        go : (b : Bool) → P .universal x ≡ b → cond b (put s) (over look 32 f (put s)) ≡ put (turn P x s)
+        go true u = ap put (sym (turn-universal P x lx u s))
+        go false u =
+            over-longer look n 32 (st .most) look-inside f (put s)
+            ∙ over-made n (λ k. revise P x k) f put (Sized P) look (λ k t _ w. revise-sized P x lx k t w)
+            (λ k t lk b w. revise-holds t w x k lx lk (rw u tt) (and-out (constrained x k) (bit dirty k || bit all k) (rw (look-bit k lk) at b) .0)) s z
+            ∙ ap put (sym (turn-over P x lx look s z (λ k lk e. ready-look P all dirty x s lx ready k lk (sym (look-bit k lk) ∙ e))))
+
+  -- The words hold a list and its reasons, and the mask tells what waits at the turn of x.
+  record Agrees (all x : ℕ) (p : Progress) (s : Sheet) : Type 0 where
+    pub held : p .words ≡ put s
+    pub sized : Sized P s
+    pub ready : Ready P all (p .dirty) x s
+
+  turn-agrees : (all x : ℕ) (p : Progress) (s : Sheet) → x < n → Agrees all x p s → Agrees all (suc x) (progress near index rows universal all x p) (turn P x s)
+  unfolding progress lostAt
+  turn-agrees all x p s lx a = record {
+    held = now;
+    sized = turn-sized P x lx s (a .sized);
+    ready = ready-turn P all (p .dirty) (marked (p .dirty) x (lostAt x (p .words) r)) x s lx (a .sized) (a .ready) (marked-off (p .dirty) x (lostAt x (p .words) r)) (told (turn-falls P x lx s (a .sized)));
+  }
+    where
+      r : List ℕ
+      r = turnIn near index rows universal (bitOr (p .dirty) all) x (p .words)
+
+      now : r ≡ put (turn P x s)
+      now = ap (turnIn near index rows universal (bitOr (p .dirty) all) x) (a .held) ∙ turn-holds s (a .sized) all (p .dirty) x lx (a .ready)
+
+      lost : getD (turn P x s .list) x 0 < getD (s .list) x 0 → lostAt x (p .words) r ≡ true
+      lost l = ap₂ (λ u v. not (eqb u v)) (ap (λ v. getD v x 0) now ∙ domain-at (turn P x s) (turn-sized P x lx s (a .sized)) x lx) (ap (λ v. getD v x 0) (a .held) ∙ domain-at s (a .sized) x lx)
+          ∙ ap not (ne-eqb (getD (turn P x s .list) x 0) (getD (s .list) x 0) (omega arith))
+
+      told : (turn P x s ≡ s) ⊎ (getD (turn P x s .list) x 0 < getD (s .list) x 0) → (turn P x s ≡ s) ⊎ T (bit (marked (p .dirty) x (lostAt x (p .words) r)) x)
+      told (inl e) = inl e
+      told (inr l) = inr (rw (lost l) (marked-on (p .dirty) x))
+
+  pass-agrees : (all : ℕ) (p : Progress) (s : Sheet) → Agrees all 0 p s → Agrees 0 0 (passIn near index rows universal n all p) (pass P s)
+  unfolding passIn pass
+  pass-agrees all p s a = next (loop-beside n (λ x. progress near index rows universal all x) (turn P) (Agrees all) (λ x p s l a. turn-agrees all x p s l a) n 0 (omega arith) p s a)
+    where
+      next : {p : Progress} {s : Sheet} → Agrees all n p s → Agrees 0 0 p s
+      next {p = p} {s = s} a = record { held = a .held; sized = a .sized; ready = ready-next P all (p .dirty) s (a .ready) }
+
+  -- Passes until nothing waits are as many passes as one likes.
+  passes-rest : (v : ℕ) (p : Progress) (s : Sheet) → Agrees 0 0 p s → passesIn near index rows universal n v 0 p .words ≡ put (loop v 0 (λ _. pass P) s)
+  unfolding passesIn loop
+  passes-rest zero p s a = a .held
+  passes-rest (suc v) p s a = go (eqb (p .dirty) 0) refl (passes-rest v (passIn near index rows universal n 0 p) (pass P s) (pass-agrees 0 p s a) ∙ ap put (loop-from (pass P) v 0 1 (pass P s)))
+    where
+      go : (b : Bool) → eqb (p .dirty) 0 ≡ b → passesIn near index rows universal n v 0 (passIn near index rows universal n 0 p) .words ≡ put (loop v 1 (λ _. pass P) (pass P s))
+          → cond b p (passesIn near index rows universal n v 0 (passIn near index rows universal n 0 p)) .words ≡ put (loop v 1 (λ _. pass P) (pass P s))
+      go true e h = a .held ∙ ap put (sym (ready-none P (suc v) 0 s (subst (λ d. Ready P 0 d 0 s) (eqb-true (p .dirty) 0 e) (a .ready))))
+      go false e h = h
+
+  passes-hold : (v : ℕ) (s : Sheet) → Sized P s → passesIn near index rows universal n v everyone (record { dirty = everyone; words = put s }) .words ≡ put (loop v 0 (λ _. pass P) s)
+  unfolding passesIn loop
+  passes-hold zero s z = refl
+  passes-hold (suc v) s z = passes-rest v (passIn near index rows universal n everyone (record { dirty = everyone; words = put s })) (pass P s) (pass-agrees everyone (record { dirty = everyone; words = put s }) s start) ∙ ap put (loop-from (pass P) v 0 1 (pass P s))
+    where
+      ones : (k : ℕ) → k < n → T (bit everyone k)
+      ones k l = let m = st .most in true-holds (bit-not 32 0 k (omega arith) (omega arith) ∙ ap not (bit-of-zero k))
+
+      start : Agrees everyone 0 (record { dirty = everyone; words = put s }) s
+      start = record { held = refl; sized = z; ready = ready-first P everyone everyone s ones }
+
+-- Words of 16 bits hold masks of 16 bits.
+pub sheet-sized : (P : Problem) (w : List ℕ) → ((k : ℕ) → getD w k 0 < 65536) → Sized P (sheetIn (P .n) w)
+sheet-sized P w small = record {
+  masks = length-listIn (P .n) w;
+  small = λ i. by-lt i (P .n) (λ l. rw (getD-listIn (P .n) w i l) (small i)) (λ l. let e = length-listIn (P .n) w in rw (List·getD-eq-default (listIn (P .n) w) 0 {n = i} (omega arith)) (omega arith));
+  reasons = length-whyIn (P .n) w;
+}
+
+-- On the words of a turn the code's removals are those of the definition.
+pub removals : (P : Problem) (n universal : ℕ) (near index rows : List ℕ) → States P n universal near index rows → (w : List ℕ) → 96 ≤ length w → ((k : ℕ) → getD w k 0 < 65536)
+    → removedIn near index rows universal n w ≡ holdingSheet n w (revisions P (sheetIn n w))
+unfolding removedIn
+removals P n universal near index rows st w long small = subst Goal (st .size) go st
+  where
+    Goal : ℕ → Type 0
+    Goal n = States P n universal near index rows
+        → removedIn near index rows universal n w ≡ holdingSheet n w (revisions P (sheetIn n w))
+
+    formed : Sized P (sheetIn (P .n) w) → Formed P (sheetIn (P .n) w)
+    formed z = record { masks = record { size = z .masks; small = z .small }; sized = z .reasons }
+
+    go : Goal (P .n)
+    go st =
+        ap (removedIn near index rows universal (P .n)) (sym (holding-own (P .n) (st .most) w long small))
+        ∙ passes-hold P universal near index rows st w long (16 * P .n) (sheetIn (P .n) w) (sheet-sized P w small)
+        ∙ ap (holdingSheet (P .n) w) (sym (revisions-loop P (sheetIn (P .n) w) (formed (sheet-sized P w small))))

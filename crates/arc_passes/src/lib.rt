@@ -1,0 +1,161 @@
+// Rule 1's removals on the words of a turn: dead values go, and the reasons of what loses values grow. Whole masks at a
+// time; a variable looks again only at neighbours that lost values since it looked. `remove_dead` is for arc_rule.
+ghost use mathlib.Core.Path.{_≡_};
+ghost use mathlib.Core.Bool.{_&&_};
+ghost use lib.Dec.{ltb};
+ghost use Rattle.mask.specs.Mask.{bit};
+ghost use Prim.Native.Nat.{_<_, _≤_};
+ghost use lib.ListN.{length};
+ghost use Rattle.arrays.specs.Arrays.{InRange};
+ghost use Rattle.arc_passes.specs.Passes.{leaves, causeOf, reviseIn, turnIn, lostAt, marked, passIn, removedIn};
+use arrays::add_reason;
+use arrays::common;
+use arrays::reason;
+use arrays::supported;
+use mask::contains_32;
+use mask::lowest_32;
+use mask::rest_of_32;
+use mask::single_32;
+
+// Whether k is universal and later than x.
+fn is_late(universal: u32, x: usize, k: usize) -> bool
+    requires { ⌜ k < 32 ⌝ }
+    ensures { λ r. ⌜ r ≡ (bit universal k && ltb x k) ⌝ }
+{
+    contains_32(universal, k) && x < k
+}
+
+// The values of x that the mask m of k leaves.
+fn left_by(
+    index: &[u16; 1024],
+    rows: &[u16; 15888],
+    universal: u32,
+    x: usize,
+    k: usize,
+    m: u16,
+) -> u16
+    requires { ⌜ (x < 32) × (k < 32) × InRange (now index) ⌝ }
+    ensures { λ r. ⌜ r ≡ leaves (now (index .entry)) (now (rows .entry)) universal x k m ⌝ }
+{
+    if is_late(universal, x, k) {
+        common(index, rows, k, m, x)
+    } else {
+        supported(index, rows, k, m, x)
+    }
+}
+
+// What the reason of x takes in with a removal because of k, whose reason is r.
+fn cause(universal: u32, x: usize, k: usize, r: u32) -> u32
+    requires { ⌜ (x < 32) × (k < 32) ⌝ }
+    ensures { λ c. ⌜ c ≡ causeOf universal x k r ⌝ }
+{
+    if is_late(universal, x, k) {
+        r | single_32(x)
+    } else {
+        r
+    }
+}
+
+// The revision of x by k.
+fn revise(
+    index: &[u16; 1024],
+    rows: &[u16; 15888],
+    universal: u32,
+    x: usize,
+    k: usize,
+    w: &mut [u16],
+)
+    requires { ⌜ (x < 32) × (k < 32) × (96 ≤ length (now w)) × InRange (now index) ⌝ }
+    ensures { λ _. ⌜ now (w .exit) ≡ reviseIn (now (index .entry)) (now (rows .entry)) universal x k (now (w .entry)) ⌝ }
+{
+    let old = w[x];
+    let new = old & left_by(index, rows, universal, x, k, w[k]);
+    if new != old {
+        let c = cause(universal, x, k, reason(w, k));
+        w[x] = new;
+        add_reason(w, x, c);
+    }
+}
+
+// The turn of x: its revisions by its neighbours in the mask look. It says whether x has lost values.
+fn turn(
+    near: &[u32; 32],
+    index: &[u16; 1024],
+    rows: &[u16; 15888],
+    universal: u32,
+    look: u32,
+    x: usize,
+    w: &mut [u16],
+) -> bool
+    requires { ⌜ (x < 32) × (96 ≤ length (now w)) × InRange (now index) ⌝ }
+    ensures { λ r. ⌜ (now (w .exit) ≡ turnIn (now (near .entry)) (now (index .entry)) (now (rows .entry)) universal look x (now (w .entry))) × (r ≡ lostAt x (now (w .entry)) (now (w .exit))) ⌝ }
+{
+    if contains_32(universal, x) {
+        return false;
+    }
+    let old = w[x];
+    let mut left = near[x] & look;
+    while left != 0 {
+        let k = lowest_32(left) as usize;
+        revise(index, rows, universal, x, k, w);
+        left = rest_of_32(left);
+    }
+    w[x] != old
+}
+
+// The mask dirty, with x in it where it lost values and else without it.
+fn mark(dirty: u32, x: usize, lost: bool) -> u32
+    requires { ⌜ x < 32 ⌝ }
+    ensures { λ r. ⌜ r ≡ marked dirty x lost ⌝ }
+{
+    let b = single_32(x);
+    if lost { dirty | b } else { dirty ^ (dirty & b) }
+}
+
+// A pass of turns. It replies the variables that lost values. At the turn of x those below x in dirty lost values in this
+// pass, the others in the pass before: these, and those of the mask all, are what x has still to look at.
+fn pass(
+    near: &[u32; 32],
+    index: &[u16; 1024],
+    rows: &[u16; 15888],
+    n: usize,
+    universal: u32,
+    all: u32,
+    start: u32,
+    w: &mut [u16],
+) -> u32
+    requires { ⌜ (n ≤ 32) × (96 ≤ length (now w)) × InRange (now index) ⌝ }
+    ensures { λ r. ⌜ record { dirty = r; words = now (w .exit) } ≡ passIn (now (near .entry)) (now (index .entry)) (now (rows .entry)) universal n all (record { dirty = start; words = now (w .entry) }) ⌝ }
+{
+    let mut dirty = start;
+    let mut x: usize = 0;
+    while x < n {
+        let lost = turn(near, index, rows, universal, dirty | all, x, w);
+        dirty = mark(dirty, x, lost);
+        x += 1;
+    }
+    dirty
+}
+
+// Passes until no variable has lost values, in the first of which each looks at all its neighbours. There are never more
+// than 16 n: each but the last removes a value.
+pub fn remove_dead(
+    near: &[u32; 32],
+    index: &[u16; 1024],
+    rows: &[u16; 15888],
+    n: usize,
+    universal: u32,
+    w: &mut [u16],
+)
+    requires { ⌜ (n ≤ 32) × (96 ≤ length (now w)) × InRange (now index) ⌝ }
+    ensures { λ _. ⌜ now (w .exit) ≡ removedIn (now (near .entry)) (now (index .entry)) (now (rows .entry)) universal n (now (w .entry)) ⌝ }
+{
+    let mut left = 16 * n;
+    let mut all: u32 = 4294967295;
+    let mut dirty: u32 = 4294967295;
+    while left > 0 && dirty != 0 {
+        dirty = pass(near, index, rows, n, universal, all, dirty, w);
+        all = 0;
+        left -= 1;
+    }
+}

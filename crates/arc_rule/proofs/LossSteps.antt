@@ -1,0 +1,64 @@
+-- The steps of the code against specs/Loss.antt, over plain variables.
+use mathlib.Core.Path.{_≡_}
+use mathlib.Core.Bool.{Bool, true, false, not}
+use mathlib.Core.List.{List}
+use Prim.Native.Nat.{ℕ, _≤_, _<_}
+use lib.Dec.{T, ltb}
+use lib.Bits.{bitOr}
+use lib.ListN.{getD}
+use borrow.Author.Tests.{lt-ltb, le-ltb, ltb-true}
+use Rattle.mask.specs.Range.{each, first}
+use Rattle.mask.specs.Mask.{bit}
+use Rattle.mask.proofs.Logic.{holds, and-out}
+use Rattle.mask.proofs.Range.{first-of}
+use Rattle.arrays.specs.Arrays.{supportedIn, commonIn}
+use Rattle.arrays.specs.Words.{reasonIn}
+use Rattle.arc_rule.specs.Loss.{emptiedIn, barsIn, barrier, stopped, loss, conflict}
+
+-- A universal k, a later existential one, and an earlier one.
+module _ (index rows : List ℕ) (universal x k u v m : ℕ) (b c : Bool) (e : c ≡ bit universal k) (p : b ≡ each 16 (bit u) (bit m)) where
+  pub bars-universal : c ≡ true → m ≡ commonIn index rows k v x → not b ≡ barsIn index rows universal x k u v
+  unfolding barsIn
+  bars-universal t q = rw (← e, t, ← q, p)
+
+  pub bars-later : c ≡ false → x < k → m ≡ supportedIn index rows k v x → not b ≡ barsIn index rows universal x k u v
+  unfolding barsIn
+  bars-later t l q = rw (← e, t, lt-ltb x k l, ← q, p)
+
+pub bars-earlier : (index rows : List ℕ) (universal x k u v : ℕ) (c : Bool) → c ≡ bit universal k → c ≡ false → k ≤ x → ltb x k ≡ barsIn index rows universal x k u v
+unfolding barsIn
+bars-earlier index rows universal x k u v c e t l = rw (← e, t, le-ltb x k l)
+
+-- A universal variable is stopped where it has a barrier, another never.
+module _ (near index rows : List ℕ) (universal : ℕ) (w : List ℕ) (x : ℕ) (c : Bool) (e : c ≡ bit universal x) where
+  pub stopped-universal : (b : ℕ) → c ≡ true → b ≡ barrier index rows universal w x (getD near x 0) → ltb b 32 ≡ stopped near index rows universal w x
+  unfolding stopped
+  stopped-universal b t q = rw (← e, t, q)
+
+  pub stopped-none : c ≡ false → c ≡ stopped near index rows universal w x
+  unfolding stopped
+  stopped-none t = rw (← e, t)
+
+-- The loss: an emptied variable; else a stopped one, with its barrier; else none.
+module _ (near index rows : List ℕ) (universal : ℕ) (w : List ℕ) (n x : ℕ) (p : x ≡ first n (emptiedIn universal w)) where
+  pub loss-emptied : (q : ℕ) → x < n → q ≡ reasonIn w x → (true ≡ loss near index rows universal w n) × (q ≡ conflict near index rows universal w n)
+  unfolding loss conflict
+  loss-emptied q l e = (rw (← p, lt-ltb x n l), rw (← p, lt-ltb x n l) e)
+
+  module _ (h : n ≤ x) (y : ℕ) (s : y ≡ first n (stopped near index rows universal w)) where
+    pub loss-stopped : (k a b : ℕ) → y < n → k ≡ barrier index rows universal w y (getD near y 0) → a ≡ reasonIn w y → b ≡ reasonIn w k
+        → (true ≡ loss near index rows universal w n) × (bitOr a b ≡ conflict near index rows universal w n)
+    unfolding loss conflict
+    loss-stopped k a b l f e g = (rw (← p, le-ltb x n h, ← s, lt-ltb y n l), rw (← p, le-ltb x n h, ← s, lt-ltb y n l, ← f, e, g))
+
+    pub loss-none : n ≤ y → (false ≡ loss near index rows universal w n) × (0 ≡ conflict near index rows universal w n)
+    unfolding loss conflict
+    loss-none l = (rw (← p, le-ltb x n h, ← s, le-ltb y n l), rw (← p, le-ltb x n h, ← s, le-ltb y n l))
+
+-- The lowest stopped variable has a barrier.
+pub stopped-barred : (near index rows : List ℕ) (universal : ℕ) (w : List ℕ) (n y k : ℕ) → y ≡ first n (stopped near index rows universal w) → y < n → k ≡ barrier index rows universal w y (getD near y 0) → k < 32
+unfolding stopped
+stopped-barred near index rows universal w n y k s l e =
+    let b : ℕ = barrier index rows universal w y (getD near y 0) in
+    let t : T (stopped near index rows universal w (first n (stopped near index rows universal w))) = first-of n (stopped near index rows universal w) (rw (← s) l) in
+    rw e (ltb-true b 32 (holds {b = ltb b 32} (and-out (bit universal y) (ltb b 32) (rw (← s) at t) .1)))

@@ -1,0 +1,20 @@
+use borrow.Author.Needs.{needs}
+use native.Mathlib.Omega.{arith}
+use Rattle.arc_rule.proofs.ArcLaws.{arced}
+use Rattle.arc_rule.proofs.arc.Statement.{statement}
+use Rattle.arc_rule.proofs.arc.Tie as tie
+
+remove-dead-requires : tie.Need-remove-dead-requires
+remove-dead-requires c κs = search needs
+
+loss-in-requires : tie.Need-loss-in-requires
+loss-in-requires c κs = search needs
+
+same-length : tie.Need-same-length
+same-length c = search needs
+
+returns : tie.Need-returns
+returns c = λ P st. arced P _ _ _ _ _ st _ _ _ _ (search needs) (λ k. omega (arith, c .before .before .before .before .before .before .slice-known .given k)) (c .before .before .before .before .remove-dead .ensures) (c .loss-in .ensures .0) (c .loss-in .ensures .1)
+
+pub arc-spec : {M : Type 1} → statement M
+arc-spec = tie.close (tie.spec remove-dead-requires loss-in-requires same-length returns)

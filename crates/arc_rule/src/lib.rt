@@ -1,0 +1,175 @@
+// Rule 1 on the words of a turn: dead values are removed, and the loss and its conflict set are read off what is left.
+// `arc` is for the crates of the rules and the search.
+ghost use mathlib.Core.Path.{_≡_};
+ghost use mathlib.Core.Bool.{_&&_};
+ghost use Prim.Native.Nat.{_<_, _≤_};
+ghost use lib.ListN.{length, getD};
+ghost use Rattle.mask.specs.Range.{first};
+ghost use Rattle.arrays.specs.Arrays.{InRange};
+ghost use Rattle.arc_rule.specs.Loss.{emptiedIn, barsIn, barrier, stopped, loss, conflict};
+ghost use Rattle.arc_rule.specs.ArcRule.{ArcSteps};
+use arc_passes::remove_dead;
+use arrays::common;
+use arrays::reason;
+use arrays::supported;
+use mask::contains_32;
+use mask::lowest_32;
+use mask::rest_of_32;
+use mask::within;
+
+// What rule 1 replies: whether the game is lost, and then a set of variables that it is lost because of.
+pub struct Outcome {
+    pub loss: bool,
+    pub conflict: u32,
+}
+
+// Whether x is existential and its domain empty.
+fn is_emptied(universal: u32, w: &[u16], x: usize) -> bool
+    requires { ⌜ (x < 32) × (96 ≤ length (now w)) ⌝ }
+    ensures { λ r. ⌜ r ≡ emptiedIn universal (now (w .entry)) x ⌝ }
+{
+    !contains_32(universal, x) && w[x] == 0
+}
+
+// The lowest emptied variable, or n.
+fn lowest_emptied(n: usize, universal: u32, w: &[u16]) -> usize
+    requires { ⌜ (n ≤ 32) × (96 ≤ length (now w)) ⌝ }
+    ensures { λ r. ⌜ r ≡ first n (emptiedIn universal (now (w .entry))) ⌝ }
+{
+    let mut x: usize = 0;
+    while x < n {
+        if is_emptied(universal, w, x) {
+            return x;
+        }
+        x += 1;
+    }
+    n
+}
+
+// Whether k with the mask v bars a value of the mask u of a universal x.
+fn bars(
+    index: &[u16; 1024],
+    rows: &[u16; 15888],
+    universal: u32,
+    x: usize,
+    k: usize,
+    u: u16,
+    v: u16,
+) -> bool
+    requires { ⌜ (x < 32) × (k < 32) × InRange (now index) ⌝ }
+    ensures { λ r. ⌜ r ≡ barsIn (now (index .entry)) (now (rows .entry)) universal x k u v ⌝ }
+{
+    if contains_32(universal, k) {
+        return !within(u, common(index, rows, k, v, x));
+    }
+    x < k && !within(u, supported(index, rows, k, v, x))
+}
+
+// The first variable of the mask m that bars a value of x, or 32.
+fn first_bar(
+    index: &[u16; 1024],
+    rows: &[u16; 15888],
+    universal: u32,
+    x: usize,
+    m: u32,
+    w: &[u16],
+) -> usize
+    requires { ⌜ (x < 32) × (96 ≤ length (now w)) × InRange (now index) ⌝ }
+    ensures { λ r. ⌜ r ≡ barrier (now (index .entry)) (now (rows .entry)) universal (now (w .entry)) x m ⌝ }
+{
+    let mut left = m;
+    while left != 0 {
+        let k = lowest_32(left) as usize;
+        if bars(index, rows, universal, x, k, w[x], w[k]) {
+            return k;
+        }
+        left = rest_of_32(left);
+    }
+    32
+}
+
+// Whether x is universal and a neighbour bars one of its values.
+fn is_stopped(
+    near: &[u32; 32],
+    index: &[u16; 1024],
+    rows: &[u16; 15888],
+    universal: u32,
+    x: usize,
+    w: &[u16],
+) -> bool
+    requires { ⌜ (x < 32) × (96 ≤ length (now w)) × InRange (now index) ⌝ }
+    ensures { λ r. ⌜ r ≡ stopped (now (near .entry)) (now (index .entry)) (now (rows .entry)) universal (now (w .entry)) x ⌝ }
+{
+    contains_32(universal, x) && first_bar(index, rows, universal, x, near[x], w) < 32
+}
+
+// The lowest stopped variable, or n.
+fn lowest_stopped(
+    near: &[u32; 32],
+    index: &[u16; 1024],
+    rows: &[u16; 15888],
+    n: usize,
+    universal: u32,
+    w: &[u16],
+) -> usize
+    requires { ⌜ (n ≤ 32) × (96 ≤ length (now w)) × InRange (now index) ⌝ }
+    ensures { λ r. ⌜ r ≡ first n (stopped (now (near .entry)) (now (index .entry)) (now (rows .entry)) universal (now (w .entry))) ⌝ }
+{
+    let mut x: usize = 0;
+    while x < n {
+        if is_stopped(near, index, rows, universal, x, w) {
+            return x;
+        }
+        x += 1;
+    }
+    n
+}
+
+// The loss and its conflict set, of words without dead values.
+fn loss_in(
+    near: &[u32; 32],
+    index: &[u16; 1024],
+    rows: &[u16; 15888],
+    n: usize,
+    universal: u32,
+    w: &[u16],
+) -> Outcome
+    requires { ⌜ (n ≤ 32) × (96 ≤ length (now w)) × InRange (now index) ⌝ }
+    ensures { λ r. ⌜ (r .loss ≡ loss (now (near .entry)) (now (index .entry)) (now (rows .entry)) universal (now (w .entry)) n) × (r .conflict ≡ conflict (now (near .entry)) (now (index .entry)) (now (rows .entry)) universal (now (w .entry)) n) ⌝ }
+{
+    let x = lowest_emptied(n, universal, w);
+    if x < n {
+        return Outcome {
+            loss: true,
+            conflict: reason(w, x),
+        };
+    }
+    let y = lowest_stopped(near, index, rows, n, universal, w);
+    if y < n {
+        let k = first_bar(index, rows, universal, y, near[y], w);
+        return Outcome {
+            loss: true,
+            conflict: reason(w, y) | reason(w, k),
+        };
+    }
+    Outcome {
+        loss: false,
+        conflict: 0,
+    }
+}
+
+// Rule 1.
+pub fn arc(
+    near: &[u32; 32],
+    index: &[u16; 1024],
+    rows: &[u16; 15888],
+    n: usize,
+    universal: u32,
+    w: &mut [u16],
+) -> Outcome
+    requires { ⌜ (n ≤ 32) × (96 ≤ length (now w)) × InRange (now index) ⌝ }
+    ensures { λ r. ⌜ ArcSteps n universal (now (near .entry)) (now (index .entry)) (now (rows .entry)) (now (w .entry)) (now (w .exit)) (r .loss) (r .conflict) ⌝ }
+{
+    remove_dead(near, index, rows, n, universal, w);
+    loss_in(near, index, rows, n, universal, w)
+}

@@ -1,0 +1,47 @@
+use borrow.Author.Needs.{needs}
+use mathlib.Core.Path.{sym, ap, _∙_}
+use Rattle.problem_file.specs.Reading.{told as toldHeader}
+use Rattle.problem_file.proofs.Accepted.{header-shows, header-refuses}
+use Rattle.rules.proofs.ReadLaws.{read-refused, read-fine, holds-of, fits-of}
+use Rattle.rules.specs.Alone.{told, arcTold, arcLeft}
+use Rattle.rules.proofs.arc.Statement.{statement}
+use Rattle.rules.proofs.arc.Tie as tie
+
+decode-requires : tie.Need-decode-requires
+decode-requires c κs = search needs
+
+enum-known-h : tie.Need-enum-known-h
+enum-known-h c = search needs
+
+enum-known-h-2 : tie.Need-enum-known-h-2
+enum-known-h-2 c = search needs
+
+cast-arc-in : tie.Need-cast-arc-in
+cast-arc-in c = search needs
+
+arc-in-requires : tie.Need-arc-in-requires
+arc-in-requires c κs = fits-of _ _ _ _ _ _ _ _ _ _ _ (header-shows _ _ _ _ _ (ap toldHeader (sym (c .before .before .before .before .before .before .h2 .given .1)) ∙ c .before .before .before .before .before .before .before .before .before .decode .ensures .0 .0)) (c .before .before .before .before .before .before .before .before .before .decode .ensures .1)
+
+returns : tie.Need-returns
+unfolding told arcTold arcLeft
+returns c = let q = header-refuses _ _ _ (ap toldHeader (sym (c .before .h .given .1)) ∙ c .before .before .before .before .decode .ensures .0 .0) in (λ bytes. sym (read-refused _ bytes _ _ _ _ q), λ bytes. sym (read-refused _ bytes _ _ _ _ q))
+
+same-length : tie.Need-same-length
+same-length c = search needs
+
+returns-2 : tie.Need-returns-2
+unfolding arcTold arcLeft
+returns-2 c = let s = header-shows _ _ _ _ _ (ap toldHeader (sym (c .before .before .before .before .before .before .before .before .before .h2 .given .1)) ∙ c .before .before .before .before .before .before .before .before .before .before .before .before .decode .ensures .0 .0) in (λ bytes. c .before .before .arc-in .ensures _ (holds-of _ _ _ _ _ _ _ _ bytes _ _ _ _ s (c .before .before .before .before .before .before .before .before .before .before .before .before .decode .ensures .1) (c .before .before .before .before .before .before .before .before .before .before .before .before .decode .ensures .0 .1)) .0 ∙ sym (read-fine _ bytes _ _ (s .fine)), λ bytes. c .before .before .arc-in .ensures _ (holds-of _ _ _ _ _ _ _ _ bytes _ _ _ _ s (c .before .before .before .before .before .before .before .before .before .before .before .before .decode .ensures .1) (c .before .before .before .before .before .before .before .before .before .before .before .before .decode .ensures .0 .1)) .1 ∙ sym (read-fine _ bytes _ _ (s .fine)))
+
+pub arc-spec : {M : Type 1} → statement M
+arc-spec =
+    tie.close
+    (tie.spec
+    decode-requires
+    enum-known-h
+    enum-known-h-2
+    cast-arc-in
+    arc-in-requires
+    returns
+    same-length
+    returns-2)

@@ -1,0 +1,111 @@
+-- What each of the five calls tells, and what it leaves in the list: by the file's verdict first, then by the tests, then by the rule.
+use Prim.Native.Nat.{ℕ, _<_}
+use mathlib.Core.Path.{_≡_, refl}
+use mathlib.Core.Bool.{Bool, cond}
+use mathlib.Core.List.{List, [], _∷_}
+use lib.ListN.{getD}
+use Rattle.refusal.specs.declared.Verdict.{Verdict}
+use Rattle.refusal.specs.declared.Verdict.the-variants.{Fine}
+use Rattle.refusal.specs.declared.Verdict.the-variants.{Refused as Not}
+use Rattle.refusal.specs.Told.{Told, replied, refused, refusedAt}
+use Rattle.file_records.specs.Records.{verdictOf}
+use Rattle.game.specs.Problem.{Problem}
+use Rattle.game.specs.Lists.{mayLend}
+use Rattle.game.specs.Arc.{arc}
+use Rattle.game.specs.Forward.{forward}
+use Rattle.game.specs.LookAhead.{lookAhead}
+use Rattle.game.specs.Pure.{pure}
+use Rattle.game.specs.Interchangeable.{interchangeable}
+use Rattle.tables.specs.FileProblem.{problemOf}
+use Rattle.rules.specs.declared.Ruled.{Ruled}
+use Rattle.rules.specs.declared.Ruled.the-variants.{Stands, Lost, Refused, RefusedAt}
+use Rattle.rules.specs.declared.Values.{Values}
+use Rattle.rules.specs.declared.Values.the-variants.{Mask}
+use Rattle.rules.specs.declared.Values.the-variants.{Refused as NoValues, RefusedAt as NoValuesAt}
+use Rattle.rules.specs.Lend.{listTest, variableTest, valueTest}
+
+-- The elements of f are bytes, as those of every slice of bytes.
+abbrev pub Bytes : List ℕ → Type 0
+Bytes f = (k : ℕ) → getD f k 0 < 256
+
+-- Each case of the answers in document 01's numbers: 0 for no loss, 1 for a loss; a mask.
+unfoldable pub told : Ruled → Told
+told Stands = replied (0 ∷ [])
+told Lost = replied (1 ∷ [])
+told (Refused e) = refused e
+told (RefusedAt e p) = refusedAt e p
+
+unfoldable pub toldValues : Values → Told
+toldValues (Mask m) = replied (m ∷ [])
+toldValues (NoValues e) = refused e
+toldValues (NoValuesAt e p) = refusedAt e p
+
+-- "Every call with a file reads it first": an accepted file goes on to its problem, a refused one hands on number and place.
+unfoldable pub readAs : {A : Type 0} (f : List ℕ) → Bytes f → (ℕ → ℕ → A) → (Problem → A) → (v : Verdict) → verdictOf f ≡ v → A
+readAs f bytes refusal reply Fine fine = reply (problemOf f bytes fine)
+readAs f bytes refusal reply (Not e p) fails = refusal e p
+
+unfoldable pub readFirst : {A : Type 0} (f : List ℕ) → Bytes f → (ℕ → ℕ → A) → (Problem → A) → A
+readFirst f bytes refusal reply = readAs f bytes refusal reply (verdictOf f) refl
+
+-- What is told of a loss or not, and of a mask, and what the list holds, by the tests: "its other refusals are a number alone";
+-- "A refused call leaves position, list, room and buffer with their old contents".
+unfoldable pub lossFor : Verdict → Bool → Told
+lossFor Fine lost = replied (cond lost 1 0 ∷ [])
+lossFor (Not e p) lost = refused e
+
+unfoldable pub maskFor : Verdict → ℕ → Told
+maskFor Fine m = replied (m ∷ [])
+maskFor (Not e p) m = refused e
+
+unfoldable pub listFor : Verdict → List ℕ → List ℕ → List ℕ
+listFor Fine new old = new
+listFor (Not e p) new old = old
+
+-- The five rules over a problem P and a list l.
+module _ (P : Problem) (l : List ℕ) where
+  open Problem P using (n)
+
+  unfoldable pub arcReply : Told
+  arcReply = lossFor (listTest (mayLend P l)) (arc P l .loss)
+
+  unfoldable pub arcList : List ℕ
+  arcList = listFor (listTest (mayLend P l)) (arc P l .list) l
+
+  unfoldable pub forwardReply : ℕ → ℕ → Told
+  forwardReply x a = lossFor (valueTest (mayLend P l) n l x a) (forward P x a l .loss)
+
+  unfoldable pub forwardList : ℕ → ℕ → List ℕ
+  forwardList x a = listFor (valueTest (mayLend P l) n l x a) (forward P x a l .list) l
+
+  unfoldable pub aheadReply : ℕ → Told
+  aheadReply x = lossFor (variableTest (mayLend P l) n x) (lookAhead P x l)
+
+  unfoldable pub pureReply : ℕ → Told
+  pureReply x = maskFor (variableTest (mayLend P l) n x) (pure P x l)
+
+  unfoldable pub interchangeableReply : ℕ → Told
+  interchangeableReply x = maskFor (variableTest (mayLend P l) n x) (interchangeable P x l)
+
+-- What each call tells of a file f and a list l, and the list that rules 1 and 2 leave.
+module _ (f : List ℕ) (bytes : Bytes f) (l : List ℕ) where
+  unfoldable pub arcTold : Told
+  arcTold = readFirst f bytes refusedAt (λ P. arcReply P l)
+
+  unfoldable pub arcLeft : List ℕ
+  arcLeft = readFirst f bytes (λ e p. l) (λ P. arcList P l)
+
+  unfoldable pub forwardTold : ℕ → ℕ → Told
+  forwardTold x a = readFirst f bytes refusedAt (λ P. forwardReply P l x a)
+
+  unfoldable pub forwardLeft : ℕ → ℕ → List ℕ
+  forwardLeft x a = readFirst f bytes (λ e p. l) (λ P. forwardList P l x a)
+
+  unfoldable pub aheadTold : ℕ → Told
+  aheadTold x = readFirst f bytes refusedAt (λ P. aheadReply P l x)
+
+  unfoldable pub pureTold : ℕ → Told
+  pureTold x = readFirst f bytes refusedAt (λ P. pureReply P l x)
+
+  unfoldable pub interchangeableTold : ℕ → Told
+  interchangeableTold x = readFirst f bytes refusedAt (λ P. interchangeableReply P l x)

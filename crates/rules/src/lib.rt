@@ -1,0 +1,118 @@
+// Rules 1 to 5 alone, on a lent list of n masks: each call reads the file first, then tests what it is lent. `arc`,
+// `forward_check`, `look_ahead`, `pure` and `interchangeable` are open to callers.
+ghost use mathlib.Core.Path.{_≡_};
+ghost use Rattle.rules.specs.Alone.{Bytes, told, toldValues, arcTold, arcLeft, forwardTold, forwardLeft, aheadTold, pureTold, interchangeableTold};
+
+mod arc_alone;
+mod forward_alone;
+mod lend;
+mod narrow_alone;
+
+use arc_alone::arc_in;
+use forward_alone::ahead_in;
+use forward_alone::forward_in;
+use narrow_alone::interchangeable_in;
+use narrow_alone::pure_in;
+use problem_file::Header;
+use tables::decode;
+
+// What rules 1 to 3 reply: no loss, a loss; refused by number; the file's refusal with its place.
+pub enum Ruled {
+    Stands,
+    Lost,
+    Refused(u8),
+    RefusedAt(u8, usize),
+}
+
+// What rules 4 and 5 reply: a mask of values, or a refusal.
+pub enum Values {
+    Mask(u16),
+    Refused(u8),
+    RefusedAt(u8, usize),
+}
+
+// Rule 1. The list is left without dead values, also in a loss.
+pub fn arc(f: &[u8], list: &mut [u16]) -> Ruled
+    ensures { λ r. ⌜ ((bytes : Bytes (now (f .entry))) → told r ≡ arcTold (now (f .entry)) bytes (now (list .entry))) ⌝ }
+    ensures { λ r. ⌜ ((bytes : Bytes (now (f .entry))) → now (list .exit) ≡ arcLeft (now (f .entry)) bytes (now (list .entry))) ⌝ }
+{
+    let mut near = [0u32; 32];
+    let mut index = [0u16; 1024];
+    let mut rows = [0u16; 15888];
+    let r = decode(f, &mut near, &mut index, &mut rows);
+    let h = r.header;
+    let d = r.domains;
+    match h {
+        Header::Refused(number, place) => Ruled::RefusedAt(number, place),
+        Header::Accepted(n, _, _, u) => arc_in(&near, &index, &rows, n as usize, u, &d, list),
+    }
+}
+
+// Rule 2, for value a of variable x. The list is left as checked, also in a loss.
+pub fn forward_check(f: &[u8], list: &mut [u16], x: usize, a: usize) -> Ruled
+    ensures { λ r. ⌜ ((bytes : Bytes (now (f .entry))) → told r ≡ forwardTold (now (f .entry)) bytes (now (list .entry)) x a) ⌝ }
+    ensures { λ r. ⌜ ((bytes : Bytes (now (f .entry))) → now (list .exit) ≡ forwardLeft (now (f .entry)) bytes (now (list .entry)) x a) ⌝ }
+{
+    let mut near = [0u32; 32];
+    let mut index = [0u16; 1024];
+    let mut rows = [0u16; 15888];
+    let r = decode(f, &mut near, &mut index, &mut rows);
+    let h = r.header;
+    let d = r.domains;
+    match h {
+        Header::Refused(number, place) => Ruled::RefusedAt(number, place),
+        Header::Accepted(n, _, _, u) => {
+            forward_in(&near, &index, &rows, n as usize, u, &d, list, x, a)
+        }
+    }
+}
+
+// Rule 3, at variable x.
+pub fn look_ahead(f: &[u8], list: &[u16], x: usize) -> Ruled
+    ensures { λ r. ⌜ ((bytes : Bytes (now (f .entry))) → told r ≡ aheadTold (now (f .entry)) bytes (now (list .entry)) x) ⌝ }
+{
+    let mut near = [0u32; 32];
+    let mut index = [0u16; 1024];
+    let mut rows = [0u16; 15888];
+    let r = decode(f, &mut near, &mut index, &mut rows);
+    let h = r.header;
+    let d = r.domains;
+    match h {
+        Header::Refused(number, place) => Ruled::RefusedAt(number, place),
+        Header::Accepted(n, _, _, u) => ahead_in(&near, &index, &rows, n as usize, u, &d, list, x),
+    }
+}
+
+// Rule 4: the pure values of variable x.
+pub fn pure(f: &[u8], list: &[u16], x: usize) -> Values
+    ensures { λ r. ⌜ ((bytes : Bytes (now (f .entry))) → toldValues r ≡ pureTold (now (f .entry)) bytes (now (list .entry)) x) ⌝ }
+{
+    let mut near = [0u32; 32];
+    let mut index = [0u16; 1024];
+    let mut rows = [0u16; 15888];
+    let r = decode(f, &mut near, &mut index, &mut rows);
+    let h = r.header;
+    let d = r.domains;
+    match h {
+        Header::Refused(number, place) => Values::RefusedAt(number, place),
+        Header::Accepted(n, _, _, _) => pure_in(&near, &index, &rows, n as usize, &d, list, x),
+    }
+}
+
+// Rule 5: the smallest of each group of interchangeable values of variable x.
+pub fn interchangeable(f: &[u8], list: &[u16], x: usize) -> Values
+    ensures { λ r. ⌜ ((bytes : Bytes (now (f .entry))) → toldValues r ≡ interchangeableTold (now (f .entry)) bytes (now (list .entry)) x) ⌝ }
+{
+    let mut near = [0u32; 32];
+    let mut index = [0u16; 1024];
+    let mut rows = [0u16; 15888];
+    let r = decode(f, &mut near, &mut index, &mut rows);
+    let h = r.header;
+    let d = r.domains;
+    match h {
+        Header::Refused(number, place) => Values::RefusedAt(number, place),
+        Header::Accepted(n, _, _, _) => {
+            interchangeable_in(&near, &index, &rows, n as usize, &d, list, x)
+        }
+    }
+}

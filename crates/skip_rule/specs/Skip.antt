@@ -1,0 +1,45 @@
+-- Rule 7 over the arrays, for all values of the skipping variable i at once. A pair without i does not depend on i's value; a pair with it leaves
+-- a mask of values. Free pairs are compatible, so only neighbours count.
+use mathlib.Core.Path.{_≡_}
+use mathlib.Core.Bool.{Bool, true, cond}
+use mathlib.Core.List.{List}
+use Prim.Native.Nat.{ℕ, _+_, _%_, _^_, _<_}
+use lib.Dec.{eqb}
+use lib.ListN.{getD}
+use Rattle.mask.specs.Range.{each}
+use Rattle.mask.specs.Mask.{bit, maskOf, above}
+use Rattle.game.specs.Problem.{Problem}
+use Rattle.game.specs.Search.{skippable}
+use Rattle.arrays.specs.Arrays.{commonIn, States}
+use Rattle.arrays.specs.Words.{listIn, leafIn}
+
+-- The values that j may have: none for i itself, whose pairs are asked apart; those of its mask for a later universal variable; else the leaf's.
+unfoldable pub boxIn : ℕ → ℕ → List ℕ → ℕ → ℕ
+boxIn later i w j = cond (eqb j i) 0 (cond (bit later j) (getD w j 0) (2 ^ (getD w (96 + j) 0 % 16)))
+
+-- Every value that k may have goes with each value of the mask m of j.
+unfoldable pub boxGoes : List ℕ → List ℕ → ℕ → ℕ → List ℕ → ℕ → ℕ → ℕ → Bool
+boxGoes index rows later i w j m k = each 16 (bit (boxIn later i w k)) (bit (commonIn index rows j m k))
+
+-- It does so for each neighbour k of j above it, and for every j below n.
+unfoldable pub goesAbove : List ℕ → List ℕ → List ℕ → ℕ → ℕ → List ℕ → ℕ → Bool
+goesAbove near index rows later i w j = each 32 (bit (above (getD near j 0) j)) (boxGoes index rows later i w j (boxIn later i w j))
+
+unfoldable pub boxesFit : List ℕ → List ℕ → List ℕ → ℕ → ℕ → ℕ → List ℕ → Bool
+boxesFit near index rows n later i w = each n (λ j. true) (goesAbove near index rows later i w)
+
+-- The values of i that go with every value that j may have, and those that do so for each j of the mask m.
+unfoldable pub leftBy : List ℕ → List ℕ → ℕ → ℕ → List ℕ → ℕ → ℕ
+leftBy index rows later i w j = commonIn index rows j (boxIn later i w j) i
+
+unfoldable pub leftOf : List ℕ → List ℕ → ℕ → ℕ → List ℕ → ℕ → ℕ
+leftOf index rows later i w m = maskOf 16 (λ b. each 32 (bit m) (λ j. bit (leftBy index rows later i w j) b))
+
+-- The leaf in the words w has values only.
+abbrev pub LeafSmall : ℕ → List ℕ → Type 0
+LeafSmall n w = (j : ℕ) → j < n → getD w (96 + j) 0 < 16
+
+-- The mask r holds the values of i that rule 7 skips after the leaf in the words w, in every problem that the arrays state.
+abbrev pub Skips : List ℕ → List ℕ → List ℕ → ℕ → ℕ → ℕ → List ℕ → ℕ → Type 0
+Skips near index rows n universal i w r =
+    (P : Problem) → States P n universal near index rows → LeafSmall n w → r ≡ maskOf 16 (skippable P (listIn n w) i (leafIn n w))

@@ -1,0 +1,171 @@
+// Rule 7 on the words of a turn: the values of its variable i that a leaf lets it skip, all at once. `later` is the mask
+// of the universal variables above i. Only neighbours are looked at. The functions that are `pub` are for the search.
+ghost use mathlib.Core.Path.{_≡_};
+ghost use Prim.Native.Nat.{_<_, _≤_};
+ghost use lib.ListN.{length, getD};
+ghost use Rattle.mask.specs.Mask.{bit};
+ghost use Rattle.game.specs.Search.{untried};
+ghost use Rattle.arrays.specs.Arrays.{InRange};
+ghost use Rattle.skip_rule.specs.Skip.{boxIn, boxGoes, goesAbove, boxesFit, leftBy, leftOf, Skips};
+use arrays::common;
+use arrays::later_neighbours;
+use arrays::neighbours;
+use mask::contains_32;
+use mask::difference;
+use mask::lowest_32;
+use mask::members_above;
+use mask::members_above_32;
+use mask::rest_of_32;
+use mask::single;
+use mask::within;
+
+// The values that j may have: none for i, its mask for a later universal variable, else the leaf's.
+fn box_of(later: u32, i: usize, j: usize, w: &[u16]) -> u16
+    requires { ⌜ (j < 32) × (128 ≤ length (now w)) ⌝ }
+    ensures { λ r. ⌜ r ≡ boxIn later i (now (w .entry)) j ⌝ }
+{
+    if j == i {
+        return 0;
+    }
+    if contains_32(later, j) {
+        return w[j];
+    }
+    single((w[96 + j] % 16) as usize)
+}
+
+// Whether every value that k may have goes with each value of the mask m of j.
+fn box_goes(
+    index: &[u16; 1024],
+    rows: &[u16; 15888],
+    later: u32,
+    i: usize,
+    j: usize,
+    m: u16,
+    k: usize,
+    w: &[u16],
+) -> bool
+    requires { ⌜ (j < 32) × (k < 32) × (128 ≤ length (now w)) × InRange (now index) ⌝ }
+    ensures { λ r. ⌜ r ≡ boxGoes (now (index .entry)) (now (rows .entry)) later i (now (w .entry)) j m k ⌝ }
+{
+    within(box_of(later, i, k, w), common(index, rows, j, m, k))
+}
+
+// Whether the values of j and those of each neighbour above it go together.
+fn goes_above(
+    near: &[u32; 32],
+    index: &[u16; 1024],
+    rows: &[u16; 15888],
+    later: u32,
+    i: usize,
+    j: usize,
+    w: &[u16],
+) -> bool
+    requires { ⌜ (j < 32) × (128 ≤ length (now w)) × InRange (now index) ⌝ }
+    ensures { λ r. ⌜ r ≡ goesAbove (now (near .entry)) (now (index .entry)) (now (rows .entry)) later i (now (w .entry)) j ⌝ }
+{
+    let m = box_of(later, i, j, w);
+    let mut left = later_neighbours(near, j);
+    while left != 0 {
+        let k = lowest_32(left) as usize;
+        if !box_goes(index, rows, later, i, j, m, k, w) {
+            return false;
+        }
+        left = rest_of_32(left);
+    }
+    true
+}
+
+// Whether the values of every pair without i go together.
+fn boxes_fit(
+    near: &[u32; 32],
+    index: &[u16; 1024],
+    rows: &[u16; 15888],
+    n: usize,
+    later: u32,
+    i: usize,
+    w: &[u16],
+) -> bool
+    requires { ⌜ (n ≤ 32) × (128 ≤ length (now w)) × InRange (now index) ⌝ }
+    ensures { λ r. ⌜ r ≡ boxesFit (now (near .entry)) (now (index .entry)) (now (rows .entry)) n later i (now (w .entry)) ⌝ }
+{
+    let mut j = 0;
+    while j < n {
+        if !goes_above(near, index, rows, later, i, j, w) {
+            return false;
+        }
+        j += 1;
+    }
+    true
+}
+
+// The values of i that go with every value that j may have.
+fn left_by(
+    index: &[u16; 1024],
+    rows: &[u16; 15888],
+    later: u32,
+    i: usize,
+    j: usize,
+    w: &[u16],
+) -> u16
+    requires { ⌜ (i < 32) × (j < 32) × (128 ≤ length (now w)) × InRange (now index) ⌝ }
+    ensures { λ r. ⌜ r ≡ leftBy (now (index .entry)) (now (rows .entry)) later i (now (w .entry)) j ⌝ }
+{
+    common(index, rows, j, box_of(later, i, j, w), i)
+}
+
+// The values of i that do so for each neighbour.
+fn values_left(
+    near: &[u32; 32],
+    index: &[u16; 1024],
+    rows: &[u16; 15888],
+    later: u32,
+    i: usize,
+    w: &[u16],
+) -> u16
+    requires { ⌜ (i < 32) × (128 ≤ length (now w)) × InRange (now index) ⌝ }
+    ensures { λ r. ⌜ r ≡ leftOf (now (index .entry)) (now (rows .entry)) later i (now (w .entry)) (getD (now (near .entry)) i 0) ⌝ }
+{
+    let mut out: u16 = 65535;
+    let mut left = neighbours(near, i);
+    while left != 0 {
+        if out == 0 {
+            return 0;
+        }
+        let j = lowest_32(left) as usize;
+        out = out & left_by(index, rows, later, i, j, w);
+        left = rest_of_32(left);
+    }
+    out
+}
+
+// The values of i that rule 7 skips after the leaf in the words.
+pub fn skippable_values(
+    near: &[u32; 32],
+    index: &[u16; 1024],
+    rows: &[u16; 15888],
+    n: usize,
+    universal: u32,
+    i: usize,
+    w: &[u16],
+) -> u16
+    requires { ⌜ (i < n) × (n ≤ 32) × (128 ≤ length (now w)) × InRange (now index) ⌝ }
+    ensures { λ r. ⌜ Skips (now (near .entry)) (now (index .entry)) (now (rows .entry)) n universal i (now (w .entry)) r ⌝ }
+{
+    let later = members_above_32(universal, i);
+    let out = values_left(near, index, rows, later, i, w);
+    if out == 0 {
+        return 0;
+    }
+    if boxes_fit(near, index, rows, n, later, i, w) {
+        return out;
+    }
+    0
+}
+
+// The values that are left to try of u after value a: the later ones that are not skipped.
+pub fn untried_after(u: u16, a: usize, skipped: u16) -> u16
+    requires { ⌜ a < 16 ⌝ }
+    ensures { λ r. ⌜ r ≡ untried (bit skipped) a u ⌝ }
+{
+    difference(members_above(u, a), skipped)
+}

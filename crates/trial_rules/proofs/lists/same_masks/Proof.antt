@@ -1,0 +1,57 @@
+use Prim.Native.Nat.{_≤_, _-_}
+use borrow.Author.Needs.{needs}
+use Rattle.trial_rules.proofs.lists.same_masks.Statement.{statement}
+use Rattle.trial_rules.proofs.lists.same_masks.Tie as tie
+
+abbrev Inv-loop : tie.InvT-loop
+Inv-loop l m ok₀ k₀ ok k = k ≤ 32
+
+abbrev μ-loop : tie.MeasureT-loop
+μ-loop l m ok₀ k₀ ok k = 32 - k
+
+loop-holds : tie.Need-loop-holds Inv-loop μ-loop
+loop-holds c = search needs
+
+mul-both : tie.Need-mul-both Inv-loop μ-loop
+mul-both c = search needs
+
+element-copy-out-both : tie.Need-element-copy-out-both Inv-loop μ-loop
+element-copy-out-both c = search needs
+
+mul-both-2 : tie.Need-mul-both-2 Inv-loop μ-loop
+mul-both-2 c = search needs
+
+element-copy-out-both-2 : tie.Need-element-copy-out-both-2 Inv-loop μ-loop
+element-copy-out-both-2 c = search needs
+
+both-requires : tie.Need-both-requires Inv-loop μ-loop
+both-requires c κs = search needs
+
+add-k : tie.Need-add-k Inv-loop μ-loop
+add-k c = search needs
+
+loop-less : tie.Need-loop-less Inv-loop μ-loop
+loop-less c = search needs
+
+loop-again : tie.Need-loop-again Inv-loop μ-loop
+loop-again c = search needs
+
+returns : tie.Need-returns Inv-loop μ-loop
+returns c = search needs
+
+pub same-masks-spec : {M : Type 1} → statement M
+same-masks-spec =
+    tie.close
+    (tie.spec
+    Inv-loop
+    μ-loop
+    loop-holds
+    mul-both
+    element-copy-out-both
+    mul-both-2
+    element-copy-out-both-2
+    both-requires
+    add-k
+    loop-less
+    loop-again
+    returns)

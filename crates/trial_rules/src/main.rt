@@ -1,0 +1,107 @@
+// Runs the five rules alone over shared cases (stdin: the number of cases, then for each a file, a list of n masks, what
+// arc tells and leaves, a variable and a value, what the forward check tells and leaves, and what look ahead, pure and
+// interchangeable tell), and drives every refusal of the five calls.
+ghost use Prim.Native.Nat.{_≤_};
+
+mod answers;
+mod calls;
+mod lists;
+mod refusals;
+
+use answers::is;
+use calls::called;
+use lists::masks;
+use lists::same_masks;
+use refusal::both;
+use vectors::Tally;
+use vectors::byte;
+use vectors::counted;
+use vectors::moved;
+use vectors::none_yet;
+use vectors::part;
+use vectors::place;
+use vectors::report;
+use vectors::word;
+
+fn at_most_32(n: usize) -> usize
+    ensures { λ r. ⌜ r ≤ 32 ⌝ }
+{
+    if n < 32 { n } else { 32 }
+}
+
+// Rule `rule` on the list at p tells this number; of rules 1 and 2 the list then is that at q, of the others it is as before.
+fn agrees(
+    rule: usize,
+    s: &[u8],
+    f: &[u8],
+    p: usize,
+    q: usize,
+    x: usize,
+    a: usize,
+    number: usize,
+) -> bool
+    requires { ⌜ (p ≤ 2000000) × (q ≤ 2000000) ⌝ }
+{
+    let n = at_most_32(byte(f, 2));
+    let mut l = masks(s, p, n);
+    let left = masks(s, q, n);
+    let r = called(rule, f, &mut l, n, x, a);
+    both(is(r, 0, number, 0), same_masks(&l, &left))
+}
+
+// The case whose list stands at p, of a file with n variables, in one trial.
+fn tried(rule: usize, s: &[u8], f: &[u8], p: usize, n: usize) -> bool
+    requires { ⌜ (p ≤ 1100000) × (n ≤ 256) ⌝ }
+{
+    let q = p + 2 * n;
+    let c = q + 1 + 2 * n;
+    let x = byte(s, c);
+    let a = byte(s, c + 1);
+    let e = c + 3 + 2 * n;
+    if rule == 1 {
+        return agrees(1, s, f, p, q + 1, x, a, byte(s, q));
+    }
+    if rule == 2 {
+        return agrees(2, s, f, p, c + 3, x, a, byte(s, c + 2));
+    }
+    if rule == 3 {
+        return agrees(3, s, f, p, p, x, a, byte(s, e));
+    }
+    if rule == 4 {
+        return agrees(4, s, f, p, p, x, a, word(s, e + 1));
+    }
+    agrees(5, s, f, p, p, x, a, word(s, e + 3))
+}
+
+fn one_case(rule: usize, s: &[u8], t: Tally) -> Tally {
+    let at = place(t.at);
+    let length = word(s, at);
+    let f = part(s, at + 2, length);
+    let n = byte(f, 2);
+    let p = at + 2 + length;
+    let u = counted(t, tried(rule, s, f, p, n));
+    moved(u, p + 6 * n + 9)
+}
+
+fn all_cases(rule: usize, s: &[u8]) -> Tally {
+    let count = word(s, 0);
+    let mut t = none_yet();
+    let mut k = 0;
+    while k < count {
+        t = one_case(rule, s, t);
+        k += 1;
+    }
+    t
+}
+
+fn main() {
+    let mut room = [0u8; 196608];
+    let n = io::read_full(0, &mut room);
+    let s = &room[..n];
+    report(b"arc cases ", all_cases(1, s));
+    report(b"forward check cases ", all_cases(2, s));
+    report(b"look ahead cases ", all_cases(3, s));
+    report(b"pure cases ", all_cases(4, s));
+    report(b"interchangeable cases ", all_cases(5, s));
+    report(b"refusals ", refusals::all_refusals());
+}

@@ -1,0 +1,10 @@
+-- Rules 2, 1 and 3 one after another.
+
+-- Two rulings after another, and a ruling where a test says so.
+pub mod ChainLaws
+-- Rule 2 for one play, and for the plays from one on.
+pub mod CheckLaws
+-- Rules 1 and 3.
+pub mod ArcAheadLaws
+-- The rules of a turn by the rule set.
+pub mod TurnLaws

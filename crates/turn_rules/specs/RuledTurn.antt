@@ -1,0 +1,68 @@
+-- What the rules of a turn reply and leave, in the words of the game.
+use mathlib.Core.Path.{_≡_}
+use mathlib.Core.Bool.{Bool, true, false}
+use mathlib.Core.List.{List}
+use Prim.Native.Nat.{ℕ, _-_, _^_, _≤_, _<_}
+use lib.ListN.{getD, length}
+use Rattle.mask.specs.Range.{first}
+use Rattle.mask.specs.Mask.{bit}
+use Rattle.game.specs.Problem.{Problem}
+use Rattle.game.specs.Reasons.{Step, choose, explainForward, explainChecks, explainArc, explainAhead, explained}
+use Rattle.arrays.specs.Arrays.{States}
+use Rattle.arrays.specs.Words.{listIn, whyIn, holding}
+use Rattle.forward_rule.specs.Replies.{Nonzero}
+
+-- The arrays state some problem: without one nothing is known of the words between two rules.
+pub record Stated (n universal : ℕ) (near index rows : List ℕ) : Type 0 where
+  pub problem : Problem
+  pub states : States problem n universal near index rows
+
+-- The words hold the list and the reasons of the step o, n of each; the reply is its loss and, where it is lost, its conflict set.
+pub record Replied (n : ℕ) (entry exit : List ℕ) (lost : Bool) (conflict : ℕ) (o : Step) : Type 0 where
+  pub masks : length (o .list) ≡ n
+  pub reasons : length (o .why) ≡ n
+  pub words : exit ≡ holding n entry (o .list) (o .why)
+  pub loss : lost ≡ o .loss
+  pub set : lost ≡ true → conflict ≡ o .set
+
+-- Where nothing is lost, no variable is without a value.
+abbrev pub Lasting : ℕ → List ℕ → Bool → Type 0
+Lasting n w lost = lost ≡ false → Nonzero n w
+
+-- p is a list of d plays, and the words from c on hold them.
+pub record Plays (c d : ℕ) (p w : List ℕ) : Type 0 where
+  pub count : length p ≡ d
+  pub value : (j : ℕ) → c ≤ j → j < d → getD p j 0 < 16
+  pub word : (j : ℕ) → c ≤ j → j < d → getD w j 0 ≡ 2 ^ getD p j 0
+
+-- The lowest value of variable x.
+unfoldable pub lowestOf : List ℕ → ℕ → ℕ
+lowestOf w x = first 16 (bit (getD w x 0))
+
+-- For every problem that the arrays state: the check of the lowest value of x.
+abbrev pub CheckedPlay : (n universal : ℕ) (near index rows : List ℕ) (x : ℕ) (w w' : List ℕ) (lost : Bool) (conflict : ℕ) → Type 0
+CheckedPlay n universal near index rows x w w' lost conflict =
+    (P : Problem) → States P n universal near index rows → Replied n w w' lost conflict (explainForward P x (lowestOf w x) (listIn n w) (whyIn n w))
+
+-- And for all plays p that the words hold: the checks of those from c on.
+abbrev pub CheckedPlays : (n universal : ℕ) (near index rows : List ℕ) (c d : ℕ) (w w' : List ℕ) (lost : Bool) (conflict : ℕ) → Type 0
+CheckedPlays n universal near index rows c d w w' lost conflict =
+    (P : Problem) → States P n universal near index rows → (p : List ℕ) → Plays c d p w → Replied n w w' lost conflict (explainChecks P (d - c) c p (listIn n w) (whyIn n w))
+
+-- The parts of a turn, each where `on` says so: rule 2, rule 1, and rule 3 at d.
+abbrev pub ChecksTurn : (on : Bool) (n universal : ℕ) (near index rows : List ℕ) (c d : ℕ) (w w' : List ℕ) (lost : Bool) (conflict : ℕ) → Type 0
+ChecksTurn on n universal near index rows c d w w' lost conflict =
+    (P : Problem) → States P n universal near index rows → (p : List ℕ) → Plays c d p w → Replied n w w' lost conflict (choose on (explainChecks P (d - c) c p) (listIn n w) (whyIn n w))
+
+abbrev pub ArcTurn : (on : Bool) (n universal : ℕ) (near index rows : List ℕ) (w w' : List ℕ) (lost : Bool) (conflict : ℕ) → Type 0
+ArcTurn on n universal near index rows w w' lost conflict =
+    (P : Problem) → States P n universal near index rows → Replied n w w' lost conflict (choose on (explainArc P) (listIn n w) (whyIn n w))
+
+abbrev pub AheadTurn : (on : Bool) (n universal : ℕ) (near index rows : List ℕ) (d : ℕ) (w : List ℕ) (lost : Bool) (conflict : ℕ) → Type 0
+AheadTurn on n universal near index rows d w lost conflict =
+    (P : Problem) → States P n universal near index rows → Replied n w w lost conflict (choose on (explainAhead P d) (listIn n w) (whyIn n w))
+
+-- All rules of the turn, by the rule set.
+abbrev pub RuledTurn : (n universal : ℕ) (near index rows : List ℕ) (set c d : ℕ) (w w' : List ℕ) (lost : Bool) (conflict : ℕ) → Type 0
+RuledTurn n universal near index rows set c d w w' lost conflict =
+    (P : Problem) → States P n universal near index rows → (p : List ℕ) → Plays c d p w → Replied n w w' lost conflict (explained P set c p (listIn n w) (whyIn n w))

@@ -1,0 +1,198 @@
+// Rules 2, 1 and 3 of a turn, one after another: a loss ends the turn. Every public function here is for the crate of the
+// search.
+ghost use mathlib.Core.Path.{_≡_};
+ghost use mathlib.Core.Bool.{true, _&&_};
+ghost use Prim.Native.Nat.{_≤_, _<_};
+ghost use lib.Dec.{ltb};
+ghost use lib.ListN.{length};
+ghost use Rattle.game.specs.Rule.{uses};
+ghost use Rattle.arrays.specs.Arrays.{InRange};
+ghost use Rattle.forward_rule.specs.Replies.{Nonzero};
+ghost use Rattle.turn_rules.specs.RuledTurn.{Stated, Lasting, CheckedPlay, CheckedPlays, ChecksTurn, ArcTurn, AheadTurn, RuledTurn};
+use arc_rule::arc;
+use forward_rule::forward;
+use forward_rule::forward_conflict;
+use forward_rule::look_ahead;
+use mask::contains;
+use mask::lowest;
+
+// What the rules of a turn say: a loss with its conflict set, or none.
+pub struct Said {
+    pub loss: bool,
+    pub conflict: u32,
+}
+
+// Rule 2 for the play of variable x.
+fn check_play(
+    near: &[u32; 32],
+    index: &[u16; 1024],
+    rows: &[u16; 15888],
+    n: usize,
+    universal: u32,
+    x: usize,
+    w: &mut [u16],
+) -> Said
+    requires { ⌜ (n ≤ 32) × (x < n) × (96 ≤ length (now w)) × InRange (now index) × Nonzero n (now w) × Stated n universal (now near) (now index) (now rows) ⌝ }
+    ensures { λ r. ⌜ CheckedPlay n universal (now (near .entry)) (now (index .entry)) (now (rows .entry)) x (now (w .entry)) (now (w .exit)) (r .loss) (r .conflict) × Lasting n (now (w .exit)) (r .loss) ⌝ }
+{
+    let a = lowest(w[x]) as usize;
+    let v = forward(near, index, rows, n, universal, x, a, w);
+    if v < n {
+        return Said {
+            loss: true,
+            conflict: forward_conflict(near, w, x, v),
+        };
+    }
+    Said {
+        loss: false,
+        conflict: 0,
+    }
+}
+
+// Rule 2 for the plays from c on, below d.
+fn check_plays(
+    near: &[u32; 32],
+    index: &[u16; 1024],
+    rows: &[u16; 15888],
+    n: usize,
+    universal: u32,
+    c: usize,
+    d: usize,
+    w: &mut [u16],
+) -> Said
+    requires { ⌜ (n ≤ 32) × (c ≤ d) × (d ≤ n) × (96 ≤ length (now w)) × InRange (now index) × Nonzero n (now w) × Stated n universal (now near) (now index) (now rows) ⌝ }
+    ensures { λ r. ⌜ CheckedPlays n universal (now (near .entry)) (now (index .entry)) (now (rows .entry)) c d (now (w .entry)) (now (w .exit)) (r .loss) (r .conflict) × Lasting n (now (w .exit)) (r .loss) ⌝ }
+{
+    let mut x = c;
+    while x < d {
+        let s = check_play(near, index, rows, n, universal, x, w);
+        if s.loss {
+            return s;
+        }
+        x += 1;
+    }
+    Said {
+        loss: false,
+        conflict: 0,
+    }
+}
+
+// Whether the rule set uses the rule.
+pub fn in_use(set: u8, rule: usize) -> bool
+    requires { ⌜ (1 ≤ rule) × (rule ≤ 8) ⌝ }
+    ensures { λ r. ⌜ r ≡ uses set rule ⌝ }
+{
+    contains(set as u16, rule - 1)
+}
+
+// Whether look ahead is used after d plays.
+fn ahead_used(set: u8, n: usize, d: usize) -> bool
+    ensures { λ r. ⌜ r ≡ (ltb d n && uses set 3) ⌝ }
+{
+    if d < n { in_use(set, 3) } else { false }
+}
+
+// Rule 2 where it is on.
+fn checks_turn(
+    near: &[u32; 32],
+    index: &[u16; 1024],
+    rows: &[u16; 15888],
+    n: usize,
+    universal: u32,
+    on: bool,
+    c: usize,
+    d: usize,
+    w: &mut [u16],
+) -> Said
+    requires { ⌜ (n ≤ 32) × (c ≤ d) × (d ≤ n) × (96 ≤ length (now w)) × InRange (now index) × Nonzero n (now w) × Stated n universal (now near) (now index) (now rows) ⌝ }
+    ensures { λ r. ⌜ ChecksTurn on n universal (now (near .entry)) (now (index .entry)) (now (rows .entry)) c d (now (w .entry)) (now (w .exit)) (r .loss) (r .conflict) × Lasting n (now (w .exit)) (r .loss) ⌝ }
+{
+    if on {
+        return check_plays(near, index, rows, n, universal, c, d, w);
+    }
+    Said {
+        loss: false,
+        conflict: 0,
+    }
+}
+
+// Rule 1 where it is on.
+fn arc_turn(
+    near: &[u32; 32],
+    index: &[u16; 1024],
+    rows: &[u16; 15888],
+    n: usize,
+    universal: u32,
+    on: bool,
+    w: &mut [u16],
+) -> Said
+    requires { ⌜ (n ≤ 32) × (96 ≤ length (now w)) × InRange (now index) × Nonzero n (now w) × Stated n universal (now near) (now index) (now rows) ⌝ }
+    ensures { λ r. ⌜ ArcTurn on n universal (now (near .entry)) (now (index .entry)) (now (rows .entry)) (now (w .entry)) (now (w .exit)) (r .loss) (r .conflict) × Lasting n (now (w .exit)) (r .loss) ⌝ }
+{
+    if on {
+        let o = arc(near, index, rows, n, universal, w);
+        return Said {
+            loss: o.loss,
+            conflict: o.conflict,
+        };
+    }
+    Said {
+        loss: false,
+        conflict: 0,
+    }
+}
+
+// Rule 3 at variable d where it is on.
+fn ahead_turn(
+    near: &[u32; 32],
+    index: &[u16; 1024],
+    rows: &[u16; 15888],
+    n: usize,
+    universal: u32,
+    on: bool,
+    d: usize,
+    w: &[u16],
+) -> Said
+    requires { ⌜ (n ≤ 32) × (on ≡ true → d < n) × (96 ≤ length (now w)) × InRange (now index) × Nonzero n (now w) × Stated n universal (now near) (now index) (now rows) ⌝ }
+    ensures { λ r. ⌜ AheadTurn on n universal (now (near .entry)) (now (index .entry)) (now (rows .entry)) d (now (w .entry)) (r .loss) (r .conflict) ⌝ }
+{
+    if on {
+        let h = look_ahead(near, index, rows, n, universal, d, w);
+        if h.value < 16 {
+            return Said {
+                loss: true,
+                conflict: forward_conflict(near, w, d, h.variable),
+            };
+        }
+    }
+    Said {
+        loss: false,
+        conflict: 0,
+    }
+}
+
+// Rules 2, 1 and 3 of a turn after d plays, of which those from c on are not yet checked.
+pub fn run_rules(
+    near: &[u32; 32],
+    index: &[u16; 1024],
+    rows: &[u16; 15888],
+    n: usize,
+    universal: u32,
+    set: u8,
+    c: usize,
+    d: usize,
+    w: &mut [u16],
+) -> Said
+    requires { ⌜ (n ≤ 32) × (c ≤ d) × (d ≤ n) × (96 ≤ length (now w)) × InRange (now index) × Nonzero n (now w) × Stated n universal (now near) (now index) (now rows) ⌝ }
+    ensures { λ r. ⌜ RuledTurn n universal (now (near .entry)) (now (index .entry)) (now (rows .entry)) set c d (now (w .entry)) (now (w .exit)) (r .loss) (r .conflict) × Lasting n (now (w .exit)) (r .loss) ⌝ }
+{
+    let s = checks_turn(near, index, rows, n, universal, in_use(set, 2), c, d, w);
+    if s.loss {
+        return s;
+    }
+    let a = arc_turn(near, index, rows, n, universal, in_use(set, 1), w);
+    if a.loss {
+        return a;
+    }
+    ahead_turn(near, index, rows, n, universal, ahead_used(set, n, d), d, w)
+}

@@ -1,0 +1,17 @@
+use borrow.Author.Needs.{needs}
+use Rattle.turn_words.specs.TurnRoom.{cleared}
+use Rattle.turn_words.proofs.room.clear.Statement.{statement}
+use Rattle.turn_words.proofs.room.clear.Tie as tie
+
+zero-words-requires : tie.Need-zero-words-requires
+zero-words-requires c κs = search needs
+
+same-length : tie.Need-same-length
+same-length c = search needs
+
+returns : tie.Need-returns
+unfolding cleared
+returns c = c .before .before .zero-words .ensures
+
+pub clear-spec : {M : Type 1} → statement M
+clear-spec = tie.close (tie.spec zero-words-requires same-length returns)

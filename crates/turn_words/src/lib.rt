@@ -1,0 +1,12 @@
+// What the search does with the words of its turns. A turn's words are the first 128 of the room that it is lent: domains
+// 0..32, reasons 32..96, leaf 96..128; the turn below has the words from 128 on. Every function that is `pub` is for the search.
+mod room;
+mod sets;
+
+pub use room::clear;
+pub use room::clear_leaf;
+pub use room::hand_down;
+pub use room::take_leaf;
+pub use sets::handed;
+pub use sets::near_reasons;
+pub use sets::start_set;
