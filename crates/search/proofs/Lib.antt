@@ -1,0 +1,16 @@
+-- One value of a turn by the lowest member of the mask that is left.
+pub mod ValueLaws
+-- The last turn's words and reply.
+pub mod LastLaws
+-- A turn over its words: the game's search by the rules' reply, and the turn below.
+pub mod TurnLaws
+-- The rules of a turn and the narrowing of its variable, together.
+pub mod EnterLaws
+-- The test of rule 6 after a loss below.
+pub mod StepLaws
+-- The room between two values of a turn, and what it leaves.
+pub mod RoomTurns
+-- What the words of a turn give its rules.
+pub mod StandLaws
+-- What the loop of a turn keeps.
+pub mod LoopLaws

@@ -1,0 +1,171 @@
+-- The room of a turn between two values, and what it leaves.
+use mathlib.Core.Path.{_≡_, refl, sym, ap, ap₂, subst, _∙_}
+use mathlib.Core.Bool.{Bool, true, false}
+use mathlib.Core.List.{List, _++_}
+use mathlib.Core.Logic.{_⊎_, inl, inr, ⊎-elim}
+use Prim.Native.Nat.{ℕ, _+_, _-_, _*_, _≤_, _<_}
+use native.Mathlib.Omega.{arith}
+use lib.Dec.{T}
+use lib.ListN.{getD, length, take, drop, length-drop, length-append, List·getD-append}
+use lib.Seq.{ext-getD, getD-take, getD-drop, getD-append-add, length-take-le}
+use Rattle.mask.proofs.Logic.{by-lt}
+use Rattle.arrays.specs.Words.{listIn, reasonIn, whyIn, leafIn}
+use Rattle.arrays.proofs.WordLaws.{length-listIn, getD-listIn, length-whyIn, getD-whyIn, length-leafIn, getD-leafIn}
+use Rattle.turn_words.specs.TurnRoom.{cleared, leafCleared, handedDown, leafTaken}
+use Rattle.turn_words.proofs.RoomLaws.{length-cleared, cleared-at, length-leafCleared, leafCleared-at, leafCleared-other, length-leafTaken, leafTaken-at, leafTaken-below, leafTaken-other}
+use Rattle.turn_words.proofs.ChildLaws.{length-handedDown, handedDown-other}
+use Rattle.search.specs.TurnReply.{roomOf, Blank, Leaves}
+use Rattle.search.proofs.LastLaws.{cleared-other}
+
+-- The words y between two values, x being those after the rules: domains and reasons as in x, a leaf or none, the words behind it zero, those
+-- from t on as in x.
+pub record Mid (n t : ℕ) (x y : List ℕ) : Type 0 where
+  pub size : length y ≡ length x
+  pub own : (k : ℕ) → k < 96 → getD y k 0 ≡ getD x k 0
+  pub behind : (k : ℕ) → 96 + n ≤ k → k < t → getD y k 0 ≡ 0
+  pub small : (j : ℕ) → j < n → getD y (96 + j) 0 < 16
+  pub beyond : (k : ℕ) → t ≤ k → getD y k 0 ≡ getD x k 0
+
+-- Before the first value, where no leaf stands.
+pub mid-start : (n t : ℕ) (x : List ℕ) → 96 + n ≤ t → Blank t x → Mid n t x x
+mid-start n t x b z = record {
+  size = refl;
+  own = λ k h. refl;
+  behind = λ k h l. z k (omega arith) l;
+  small = λ j h. let e = z (96 + j) (omega arith) (omega arith) in omega arith;
+  beyond = λ k h. refl;
+}
+
+module _ (n t : ℕ) (x y : List ℕ) (m : Mid n t x y) (b : n ≤ 32) where
+  pub mid-list : listIn n y ≡ listIn n x
+  mid-list =
+      let e = length-listIn n y in
+      ext-getD 0 (listIn n y) (listIn n x) (e ∙ sym (length-listIn n x)) λ j h.
+      getD-listIn n y j (omega arith) ∙ m .own j (omega arith) ∙ sym (getD-listIn n x j (omega arith))
+
+  pub mid-why : whyIn n y ≡ whyIn n x
+  unfolding reasonIn
+  mid-why =
+      let e = length-whyIn n y in
+      ext-getD 0 (whyIn n y) (whyIn n x) (e ∙ sym (length-whyIn n x)) λ j h.
+      getD-whyIn n y j (omega arith) ∙ ap₂ (λ a b. a + 65536 * b) (m .own (32 + 2 * j) (omega arith)) (m .own (33 + 2 * j) (omega arith)) ∙ sym (getD-whyIn n x j (omega arith))
+
+  -- What the turn leaves: w are its words at entry.
+  module _ (w w' : List ℕ) (long : length x ≡ length w) (far : (k : ℕ) → t ≤ k → getD x k 0 ≡ getD w k 0) (t≤ : t ≤ length w) (n≤ : 128 ≤ t) where
+    -- Won with the leaf that stands there.
+    pub leaves-leaf : w' ≡ cleared y → Leaves n t true w w'
+    leaves-leaf e =
+        let s = m .size in
+        record {
+          size = ap length e ∙ length-cleared y ∙ s ∙ long;
+          own = λ k h o. ap (λ v. getD v k 0) e
+              ∙ by-lt k 96 (λ u. cleared-at y k (omega arith) u) (λ u. cleared-other y k u ∙ m .behind k (⊎-elim (λ v. absurd (omega arith)) (λ v. v) o) h);
+          small = λ j h. subst (λ v. getD v (96 + j) 0 < 16) (sym e) (subst (λ v. v < 16) (sym (cleared-other y (96 + j) (omega arith))) (m .small j h));
+          lost = λ f. absurd (subst (λ b. T b) f tt);
+          beyond = λ k h. ap (λ v. getD v k 0) e ∙ cleared-other y k (omega arith) ∙ m .beyond k h ∙ far k h;
+        }
+
+    pub leaf-handed : w' ≡ cleared y → leafIn n w' ≡ leafIn n y
+    leaf-handed e =
+        let l = length-leafIn n w' in
+        ext-getD 0 (leafIn n w') (leafIn n y) (l ∙ sym (length-leafIn n y)) λ j h.
+        getD-leafIn n w' j (omega arith) ∙ ap (λ v. getD v (96 + j) 0) e ∙ cleared-other y (96 + j) (omega arith) ∙ sym (getD-leafIn n y j (omega arith))
+
+    all-zero : ((k : ℕ) → k < t → getD w' k 0 ≡ 0) → length w' ≡ length y → ((k : ℕ) → t ≤ k → getD w' k 0 ≡ getD y k 0) → Leaves n t false w w'
+    all-zero z l f =
+        record {
+          size = l ∙ m .size ∙ long;
+          own = λ k h o. z k h;
+          small = λ j h. let e = z (96 + j) (omega arith) in omega arith;
+          lost = λ _. z;
+          beyond = λ k h. f k h ∙ m .beyond k h ∙ far k h;
+        }
+
+    -- Lost where no leaf stands, and where the leaf is cleared.
+    pub leaves-none : Blank t y → w' ≡ cleared y → Leaves n t false w w'
+    leaves-none z e = let s = m .size in all-zero
+        (λ k h. ap (λ v. getD v k 0) e ∙ by-lt k 96 (λ u. cleared-at y k (omega arith) u) (λ u. cleared-other y k u ∙ z k u h))
+        (ap length e ∙ length-cleared y)
+        (λ k h. ap (λ v. getD v k 0) e ∙ cleared-other y k (omega arith))
+
+    pub leaves-wiped : w' ≡ cleared (leafCleared y) → Leaves n t false w w'
+    leaves-wiped e = let s = m .size in let l = length-leafCleared y in all-zero
+        (λ k h. ap (λ v. getD v k 0) e ∙ by-lt k 96 (λ u. cleared-at (leafCleared y) k (omega arith) u) (λ u. cleared-other (leafCleared y) k u
+        ∙ by-lt k 128 (λ v. leafCleared-at y k (omega arith) u v) (λ v. leafCleared-other y k (inr v) ∙ m .behind k (omega arith) h)))
+        (ap length e ∙ length-cleared (leafCleared y) ∙ l)
+        (λ k h. ap (λ v. getD v k 0) e ∙ cleared-other (leafCleared y) k (omega arith) ∙ leafCleared-other y k (inr (omega arith)))
+
+-- The turn below: h are the words with value a of d handed down, of which it is lent those from 128 on; it leaves e there, and r is the whole.
+module _ (n d a t : ℕ) (x y h e r : List ℕ) (m : Mid n t x y) (won : Bool) (b : n ≤ 32) (lt : d < n) (room : t ≡ roomOf n d) (fits : t ≤ length x)
+    (down : h ≡ handedDown d a y) (left : Leaves n (roomOf n (d + 1)) won (drop 128 h) e) (back : r ≡ take 128 h ++ e) where
+  long : length h ≡ length x
+  long = ap length down ∙ length-handedDown d a y ∙ m .size
+
+  first-words : length (take 128 h) ≡ 128
+  first-words = let l = long in length-take-le 128 h (omega arith)
+
+  size-back : length r ≡ length x
+  size-back = let l = long in let f = first-words in let g = left .size in ap length back ∙ length-append (take 128 h) e ∙ omega (arith, length-drop 128 h)
+
+  low : (k : ℕ) → k < 128 → getD r k 0 ≡ getD y k 0
+  low k u = let f = first-words in
+      ap (λ v. getD v k 0) back ∙ List·getD-append (take 128 h) e 0 k (omega arith) ∙ getD-take 128 h k 0 u ∙ ap (λ v. getD v k 0) down ∙ handedDown-other d a y k (inl u)
+
+  high : (j : ℕ) → getD r (128 + j) 0 ≡ getD e j 0
+  high j = ap (λ v. getD v (128 + j) 0) back ∙ ap (λ i. getD (take 128 h ++ e) (i + j) 0) (sym first-words) ∙ getD-append-add (take 128 h) e j 0
+
+  leaf-word : (j : ℕ) → getD r (224 + j) 0 ≡ getD e (96 + j) 0
+  leaf-word j = let s : 224 + j ≡ 128 + (96 + j) = omega arith in ap (λ i. getD r i 0) s ∙ high (96 + j)
+
+  far : (k : ℕ) → t ≤ k → getD r k 0 ≡ getD x k 0
+  far k u =
+      let s : k ≡ 128 + (k - 128) = omega arith in
+      ap (λ i. getD r i 0) s ∙ high (k - 128) ∙ left .beyond (k - 128) (omega arith) ∙ getD-drop 128 h (k - 128) 0 ∙ ap (λ i. getD h i 0) (sym s)
+      ∙ ap (λ v. getD v k 0) down ∙ handedDown-other d a y k (inr (omega arith)) ∙ m .beyond k u
+
+  -- It lost: the room is as before the value.
+  pub mid-lost : won ≡ false → Mid n t x r
+  mid-lost f = record {
+    size = size-back;
+    own = λ k u. low k (omega arith) ∙ m .own k u;
+    behind = λ k u v. by-lt k 128 (λ q. low k q ∙ m .behind k u v) (λ q. let s : k ≡ 128 + (k - 128) = omega arith in ap (λ i. getD r i 0) s ∙ high (k - 128) ∙ left .lost f (k - 128) (omega arith));
+    small = λ j u. subst (λ v. v < 16) (sym (low (96 + j) (omega arith))) (m .small j u);
+    beyond = far;
+  }
+
+  pub blank-lost : won ≡ false → Blank t y → Blank t r
+  blank-lost f z k u v = by-lt k 128 (λ q. low k q ∙ z k u v) (λ q. let s : k ≡ 128 + (k - 128) = omega arith in ap (λ i. getD r i 0) s ∙ high (k - 128) ∙ left .lost f (k - 128) (omega arith))
+
+  -- It won, and its leaf is taken up.
+  pub mid-won : (r' : List ℕ) → r' ≡ leafTaken r → Mid n t x r'
+  mid-won r' q =
+      let s = size-back in
+      record {
+        size = ap length q ∙ length-leafTaken r ∙ s;
+        own = λ k u. ap (λ v. getD v k 0) q ∙ leafTaken-other r k (inl u) (inl (omega arith)) ∙ low k (omega arith) ∙ m .own k u;
+        behind = λ k u v. ap (λ v. getD v k 0) q ∙ behind k u v;
+        small = λ j u. subst (λ v. v < 16) (sym (ap (λ v. getD v (96 + j) 0) q ∙ leafTaken-at r j (omega arith) (omega arith) ∙ leaf-word j)) (left .small j u);
+        beyond = λ k u. ap (λ v. getD v k 0) q ∙ leafTaken-other r k (inr (omega arith)) (inr (omega arith)) ∙ far k u;
+      }
+    where
+      from : (k : ℕ) → 128 ≤ k → k < t → (k < 224) ⊎ (224 + n ≤ k) → getD r k 0 ≡ 0
+      from k u v o =
+          let s : k ≡ 128 + (k - 128) = omega arith in
+          ap (λ i. getD r i 0) s ∙ high (k - 128) ∙ left .own (k - 128) (omega arith) (⊎-elim (λ p. inl (omega arith)) (λ p. inr (omega arith)) o)
+
+      behind : (k : ℕ) → 96 + n ≤ k → k < t → getD (leafTaken r) k 0 ≡ 0
+      behind k u v =
+          let s = size-back in
+          by-lt k 128
+          (λ p. let i : k ≡ 96 + (k - 96) = omega arith in
+          ap (λ i. getD (leafTaken r) i 0) i ∙ leafTaken-at r (k - 96) (omega arith) (omega arith)
+          ∙ from (224 + (k - 96)) (omega arith) (omega arith) (inr (omega arith)))
+          (λ p. by-lt k 224 (λ z. leafTaken-other r k (inr p) (inl z) ∙ from k p v (inl z))
+          (λ z. by-lt k 256 (λ g. leafTaken-below r k (omega arith) z g) (λ g. leafTaken-other r k (inr p) (inr g) ∙ from k p v (inr (omega arith)))))
+
+  pub leaf-up : (r' : List ℕ) → r' ≡ leafTaken r → leafIn n r' ≡ leafIn n e
+  leaf-up r' q =
+      let s = size-back in
+      let l = length-leafIn n r' in
+      ext-getD 0 (leafIn n r') (leafIn n e) (l ∙ sym (length-leafIn n e)) λ j u.
+      getD-leafIn n r' j (omega arith) ∙ ap (λ v. getD v (96 + j) 0) q ∙ leafTaken-at r j (omega arith) (omega arith) ∙ leaf-word j ∙ sym (getD-leafIn n e j (omega arith))

@@ -1,0 +1,49 @@
+-- What the words of a turn give its rules: some problem, plays in single masks, no variable without a value.
+use mathlib.Core.Path.{_≡_, sym, ap, subst, _∙_}
+use mathlib.Core.List.{List}
+use Prim.Native.Nat.{ℕ, _^_, _≤_, _<_}
+use native.Mathlib.Omega.{arith}
+use lib.Dec.{T}
+use lib.ListN.{getD, length}
+use Rattle.mask.specs.Mask.{bit}
+use Rattle.mask.proofs.Logic.{clash}
+use Rattle.mask.proofs.Bits.{bit-of-zero}
+use Rattle.game.specs.Problem.{Problem}
+use Rattle.game.specs.Lists.{domains}
+use Rattle.theory.proofs.Theorems as theorems
+use Rattle.theory.proofs.Lists.{lent-out}
+use Rattle.theory.proofs.Turns.{turn-at}
+use Rattle.arrays.specs.Arrays.{States}
+use Rattle.arrays.specs.Words.{listIn, whyIn}
+use Rattle.arrays.proofs.WordLaws.{getD-listIn}
+use Rattle.forward_rule.specs.Replies.{Nonzero}
+use Rattle.turn_rules.specs.RuledTurn.{Stated, Plays}
+use Rattle.search.specs.TurnReply.{TurnIn, Stands}
+use Rattle.search.proofs.LastLaws.{played}
+
+pub plays-in : (P : Problem) (n universal : ℕ) (near index rows : List ℕ) → States P n universal near index rows → (S c d : ℕ) (p w : List ℕ)
+    → ((k : ℕ) → getD w k 0 < 65536) → TurnIn P n S c d p w → Plays c d p w
+plays-in P n universal near index rows st S c d p w small turn = record {
+  count = turn .count;
+  value = λ j _ h. played P n S c d p w small (st .size) turn j h .0;
+  word = λ j _ h. played P n S c d p w small (st .size) turn j h .1;
+}
+
+module _ (n universal : ℕ) (near index rows : List ℕ) (S c d : ℕ) (w : List ℕ) (s : Stands n universal near index rows S c d w) where
+  pub stated : Stated n universal near index rows
+  stated = record { problem = s .problem; states = s .states }
+
+  pub checked : c ≤ d
+  checked =
+      let t = s .turn in
+      let a = turn-at (s .problem) S (t .plays) (t .legal-start) c (s .plays) (listIn n w) (whyIn n w) (t .turn) .checked in
+      let e = t .count in omega arith
+
+  pub nonzero : Nonzero n w
+  unfolding domains
+  nonzero j h z =
+      let t = s .turn in
+      let a = theorems.turn-position (s .problem) S (t .plays) (t .legal-start) c (s .plays) (listIn n w) (whyIn n w) (t .turn) .1 in
+      let e = s .states .size in
+      let f = lent-out (s .problem) (listIn n w) (a .may) .full j (omega arith) in
+      clash (bit-of-zero (f .0)) (subst (λ m. T (bit m (f .0))) (getD-listIn n w j h ∙ z) (f .1 .1))

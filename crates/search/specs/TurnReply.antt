@@ -1,0 +1,62 @@
+-- What a turn of the search replies and leaves in its room: the verdict is `search` of the game, its leaf stands in the turn's words.
+use mathlib.Core.Path.{_≡_}
+use mathlib.Core.Bool.{Bool, false, cond}
+use mathlib.Core.List.{List}
+use mathlib.Core.Logic.{_⊎_}
+use Prim.Native.Nat.{ℕ, _+_, _-_, _*_, _≤_, _<_}
+use lib.Dec.{T}
+use lib.ListN.{getD, length}
+use Rattle.game.specs.Problem.{Problem}
+use Rattle.game.specs.Position.{legal}
+use Rattle.game.specs.Search.{Verdict, solved, failed, search}
+use Rattle.theory.proofs.SearchNotions.{TurnOf}
+use Rattle.arrays.specs.Arrays.{States}
+use Rattle.arrays.specs.Words.{listIn, whyIn, leafIn}
+use Rattle.turn_words.specs.TurnSets.{ReasonsBelow}
+
+-- The reply in numbers and words: won with the leaf in the words, or lost with the conflict set.
+unfoldable pub replyIn : ℕ → Bool → ℕ → List ℕ → Verdict
+replyIn n won conflict w = cond won (solved (leafIn n w)) (failed conflict)
+
+-- How many words the turn after d plays and the turns below it have.
+abbrev pub roomOf : ℕ → ℕ → ℕ
+roomOf n d = 128 * (n + 1 - d)
+
+-- The words w hold a turn that a search under S may come to, after the d plays p.
+pub record TurnIn (P : Problem) (n S c d : ℕ) (p w : List ℕ) : Type 0 where
+  pub plays : List ℕ
+  pub legal-start : T (legal P plays)
+  pub turn : TurnOf P S plays c p (listIn n w) (whyIn n w)
+  pub count : length p ≡ d
+  pub reasons : ReasonsBelow n w
+
+-- They do so for some problem that the arrays state, and some plays. Without them nothing is known of the words between two steps of a turn.
+pub record Stands (n universal : ℕ) (near index rows : List ℕ) (S c d : ℕ) (w : List ℕ) : Type 0 where
+  pub problem : Problem
+  pub states : States problem n universal near index rows
+  pub plays : List ℕ
+  pub turn : TurnIn problem n S c d plays w
+
+-- The leaf of a turn and the words of those below it, up to t, are zero.
+abbrev pub Blank : ℕ → List ℕ → Type 0
+Blank t w = (k : ℕ) → 96 ≤ k → k < t → getD w k 0 ≡ 0
+
+-- The words w' that a turn with the words w, up to t, leaves: zero but for the n values of a leaf, and these too where it is lost; those beyond
+-- as they were.
+pub record Leaves (n t : ℕ) (won : Bool) (w w' : List ℕ) : Type 0 where
+  pub size : length w' ≡ length w
+  pub own : (k : ℕ) → k < t → (k < 96) ⊎ (96 + n ≤ k) → getD w' k 0 ≡ 0
+  pub small : (j : ℕ) → j < n → getD w' (96 + j) 0 < 16
+  pub lost : won ≡ false → (k : ℕ) → k < t → getD w' k 0 ≡ 0
+  pub beyond : (k : ℕ) → t ≤ k → getD w' k 0 ≡ getD w k 0
+
+-- For every problem that the arrays state and all plays of a turn that the words hold: the reply is that of the game's search.
+abbrev pub Replies : (n universal : ℕ) (near index rows : List ℕ) (S c d : ℕ) (w w' : List ℕ) (won : Bool) (conflict : ℕ) → Type 0
+Replies n universal near index rows S c d w w' won conflict =
+    (P : Problem) → States P n universal near index rows → (p : List ℕ) → TurnIn P n S c d p w
+    → search P S c (n - d) p (listIn n w) (whyIn n w) ≡ replyIn n won conflict w'
+
+-- What a turn replies and leaves.
+abbrev pub TurnReplies : (n universal : ℕ) (near index rows : List ℕ) (S c d : ℕ) (w w' : List ℕ) (won : Bool) (conflict : ℕ) → Type 0
+TurnReplies n universal near index rows S c d w w' won conflict =
+    Replies n universal near index rows S c d w w' won conflict × Leaves n (roomOf n d) won w w'

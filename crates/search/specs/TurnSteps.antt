@@ -1,0 +1,36 @@
+-- The steps of a turn before and between its values.
+use mathlib.Core.Path.{_≡_}
+use mathlib.Core.Bool.{Bool, true, false, not, _&&_}
+use mathlib.Core.List.{List}
+use Prim.Native.Nat.{ℕ, _≤_}
+use lib.Dec.{eqb}
+use lib.ListN.{getD, length}
+use Rattle.game.specs.Problem.{Problem}
+use Rattle.game.specs.Rule.{uses}
+use Rattle.game.specs.Reasons.{explained}
+use Rattle.game.specs.Search.{untried, skippable, narrowNext}
+use Rattle.arrays.specs.Arrays.{States}
+use Rattle.arrays.specs.Words.{listIn, whyIn, leafIn}
+use Rattle.skip_rule.specs.Skip.{LeafSmall}
+use Rattle.turn_rules.specs.RuledTurn.{Plays}
+
+-- After the rules of the turn of variable d: a loss with its set; or the words hold the list and the reasons that the turn tries values of,
+-- `left` is the mask of these values, and `narrowed` says whether rules 4 and 5 changed it. Words behind the reasons stay.
+pub record Enters (P : Problem) (n S c d : ℕ) (p w w' : List ℕ) (lost : Bool) (conflict left : ℕ) (narrowed : Bool) : Type 0 where
+  pub size : length w' ≡ length w
+  pub kept : (k : ℕ) → 96 ≤ k → getD w' k 0 ≡ getD w k 0
+  pub loss : lost ≡ explained P S c p (listIn n w) (whyIn n w) .loss
+  pub set : lost ≡ true → conflict ≡ explained P S c p (listIn n w) (whyIn n w) .set
+  pub list : lost ≡ false → listIn n w' ≡ narrowNext P S d (explained P S c p (listIn n w) (whyIn n w) .list) .list
+  pub why : lost ≡ false → whyIn n w' ≡ explained P S c p (listIn n w) (whyIn n w) .why
+  pub tried : lost ≡ false → left ≡ getD w' d 0
+  pub change : lost ≡ false → narrowed ≡ not (eqb (getD (narrowNext P S d (explained P S c p (listIn n w) (whyIn n w) .list) .list) d 0) (getD (explained P S c p (listIn n w) (whyIn n w) .list) d 0))
+
+abbrev pub EntersTurn : (n universal : ℕ) (near index rows : List ℕ) (S c d : ℕ) (w w' : List ℕ) (lost : Bool) (conflict left : ℕ) (narrowed : Bool) → Type 0
+EntersTurn n universal near index rows S c d w w' lost conflict left narrowed =
+    (P : Problem) → States P n universal near index rows → (p : List ℕ) → Plays c d p w → Enters P n S c d p w w' lost conflict left narrowed
+
+-- The mask r is what is left of `left` after value a of variable d gave the leaf in the words.
+abbrev pub LeavesUntried : (n universal : ℕ) (near index rows : List ℕ) (S d left a : ℕ) (w : List ℕ) (r : ℕ) → Type 0
+LeavesUntried n universal near index rows S d left a w r =
+    (P : Problem) → States P n universal near index rows → LeafSmall n w → r ≡ untried (λ b. uses S 7 && skippable P (listIn n w) d (leafIn n w) b) a left

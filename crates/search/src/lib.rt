@@ -1,0 +1,190 @@
+// Steps of the search's turns: what a turn does before, between and after its values, and the last turn, where no variable
+// is left. The two turns that call each other come above them. A turn's words are the first 128 of the room that it is
+// lent: domains 0..32, reasons 32..96, leaf 96..128; the next turn is lent what is behind them. All is for the search alone.
+ghost use mathlib.Core.Path.{_≡_};
+ghost use mathlib.Core.Bool.{true, false, not, _&&_};
+ghost use Prim.Native.Nat.{_≤_, _<_};
+ghost use lib.ListN.{length};
+ghost use Rattle.mask.specs.Mask.{bit};
+ghost use Rattle.game.specs.Rule.{uses};
+ghost use Rattle.game.specs.Search.{handed as handedUp};
+ghost use Rattle.arrays.specs.Arrays.{InRange};
+ghost use Rattle.forward_rule.specs.Replies.{Nonzero};
+ghost use Rattle.turn_rules.specs.RuledTurn.{Stated};
+ghost use Rattle.turn_words.specs.TurnRoom.{cleared, leafCleared, leafTaken};
+ghost use Rattle.search.specs.TurnReply.{Blank, Stands, TurnReplies};
+ghost use Rattle.search.specs.TurnSteps.{EntersTurn, LeavesUntried};
+use leaf_test::copy_leaf;
+use leaf_test::first_broken;
+use mask::contains_32;
+use narrow_rules::narrow_next;
+use skip_rule::skippable_values;
+use skip_rule::untried_after;
+use turn_rules::in_use;
+use turn_rules::run_rules;
+use turn_words::clear;
+use turn_words::clear_leaf;
+use turn_words::handed;
+use turn_words::take_leaf;
+
+// What a turn hands up: won, with its leaf in the words; or lost with a conflict set.
+pub struct Outcome {
+    pub won: bool,
+    pub conflict: u32,
+}
+
+// All variables are played: won with the play as leaf, or lost with the first broken constraint. No rule runs here: the
+// reply does not depend on them (theory, `turn-leaf`).
+pub fn last_turn(
+    near: &[u32; 32],
+    index: &[u16; 1024],
+    rows: &[u16; 15888],
+    n: usize,
+    universal: u32,
+    set: u8,
+    c: usize,
+    room: &mut [u16],
+) -> Outcome
+    requires { ⌜ (n ≤ 32) × (128 ≤ length (now room)) × InRange (now index) × Blank 128 (now room) × Stands n universal (now near) (now index) (now rows) set c n (now room) ⌝ }
+    ensures { λ r. ⌜ TurnReplies n universal (now (near .entry)) (now (index .entry)) (now (rows .entry)) set c n (now (room .entry)) (now (room .exit)) (r .won) (r .conflict) ⌝ }
+{
+    let broken = first_broken(near, index, rows, n, room);
+    if broken == 0 {
+        copy_leaf(n, room);
+        clear(room);
+        return Outcome {
+            won: true,
+            conflict: 0,
+        };
+    }
+    clear(room);
+    Outcome {
+        won: false,
+        conflict: handed(in_use(set, 6), n, broken),
+    }
+}
+
+// What the rules of a turn come to: a loss with its conflict set; or the values to try, and whether rules 4 and 5 narrowed them.
+pub struct Entered {
+    pub lost: bool,
+    pub conflict: u32,
+    pub left: u16,
+    pub narrowed: bool,
+}
+
+// The rules of a turn with variable d left, and its domain narrowed.
+fn enter(
+    near: &[u32; 32],
+    index: &[u16; 1024],
+    rows: &[u16; 15888],
+    n: usize,
+    universal: u32,
+    set: u8,
+    c: usize,
+    d: usize,
+    w: &mut [u16],
+) -> Entered
+    requires { ⌜ (n ≤ 32) × (c ≤ d) × (d < n) × (96 ≤ length (now w)) × InRange (now index) × Nonzero n (now w) × Stated n universal (now near) (now index) (now rows) ⌝ }
+    ensures { λ r. ⌜ EntersTurn n universal (now (near .entry)) (now (index .entry)) (now (rows .entry)) set c d (now (w .entry)) (now (w .exit)) (r .lost) (r .conflict) (r .left) (r .narrowed) ⌝ }
+{
+    let s = run_rules(near, index, rows, n, universal, set, c, d, w);
+    if s.loss {
+        return Entered {
+            lost: true,
+            conflict: s.conflict,
+            left: 0,
+            narrowed: false,
+        };
+    }
+    let before = w[d];
+    narrow_next(
+        near,
+        index,
+        rows,
+        n,
+        universal,
+        in_use(set, 4),
+        in_use(set, 5),
+        d,
+        w,
+    );
+    let left = w[d];
+    Entered {
+        lost: false,
+        conflict: 0,
+        left: left,
+        narrowed: left != before,
+    }
+}
+
+// Whether a loss below tries no further value: rule 6 is used and the conflict set lacks d.
+fn jumps(set: u8, d: usize, conflict: u32) -> bool
+    requires { ⌜ d < 32 ⌝ }
+    ensures { λ r. ⌜ r ≡ (uses set 6 && not (bit conflict d)) ⌝ }
+{
+    if in_use(set, 6) {
+        !contains_32(conflict, d)
+    } else {
+        false
+    }
+}
+
+// A loss handed up: domains and reasons become zero.
+fn lost_with(set: u8, d: usize, conflict: u32, room: &mut [u16]) -> Outcome
+    requires { ⌜ (d ≤ 32) × (128 ≤ length (now room)) ⌝ }
+    ensures { λ r. ⌜ (r .won ≡ false) × (r .conflict ≡ handedUp (uses set 6) d conflict) × (now (room .exit) ≡ cleared (now (room .entry))) ⌝ }
+{
+    clear(room);
+    Outcome {
+        won: false,
+        conflict: handed(in_use(set, 6), d, conflict),
+    }
+}
+
+// A loss handed up after a leaf was taken up: the leaf becomes zero too.
+fn lost_after(set: u8, d: usize, conflict: u32, room: &mut [u16]) -> Outcome
+    requires { ⌜ (d ≤ 32) × (128 ≤ length (now room)) ⌝ }
+    ensures { λ r. ⌜ (r .won ≡ false) × (r .conflict ≡ handedUp (uses set 6) d conflict) × (now (room .exit) ≡ cleared (leafCleared (now (room .entry)))) ⌝ }
+{
+    clear_leaf(room);
+    lost_with(set, d, conflict, room)
+}
+
+// The win of the turn below handed up.
+fn won_below(room: &mut [u16]) -> Outcome
+    requires { ⌜ 256 ≤ length (now room) ⌝ }
+    ensures { λ r. ⌜ (r .won ≡ true) × (now (room .exit) ≡ cleared (leafTaken (now (room .entry)))) ⌝ }
+{
+    take_leaf(room);
+    clear(room);
+    Outcome {
+        won: true,
+        conflict: 0,
+    }
+}
+
+// What is left to try of the mask `left` after value a gave the leaf in the words.
+fn untried_next(
+    near: &[u32; 32],
+    index: &[u16; 1024],
+    rows: &[u16; 15888],
+    n: usize,
+    universal: u32,
+    set: u8,
+    d: usize,
+    left: u16,
+    a: usize,
+    w: &[u16],
+) -> u16
+    requires { ⌜ (n ≤ 32) × (d < n) × (a < 16) × (128 ≤ length (now w)) × InRange (now index) ⌝ }
+    ensures { λ r. ⌜ LeavesUntried n universal (now (near .entry)) (now (index .entry)) (now (rows .entry)) set d left a (now (w .entry)) r ⌝ }
+{
+    if in_use(set, 7) {
+        return untried_after(
+            left,
+            a,
+            skippable_values(near, index, rows, n, universal, d, w),
+        );
+    }
+    untried_after(left, a, 0)
+}
