@@ -123,7 +123,7 @@ module _ (P : Problem) (n universal : ℕ) (near index rows : List ℕ) (st : St
           let at = theorems.turn-continues P S c p (listIn n w) on (turn-at P S plays legal-start c p (listIn n w) (whyIn n w) (turn .turn) .checked) calm' in
           let f = lent-out P (reached P S c p (listIn n w) .list) (at .may) .full (length p) unplayed in
           clash (bit-of-zero (f .0))
-              (subst (λ m. T (bit m (f .0))) (ap (λ (v : List ℕ). getD v (length p) 0) (sym reaches) ∙ ap (λ i. getD (listIn n x) i 0) count ∙ tried ∙ z) (f .1 .1))
+          (subst (λ m. T (bit m (f .0))) (ap (λ (v : List ℕ). getD v (length p) 0) (sym reaches) ∙ ap (λ i. getD (listIn n x) i 0) count ∙ tried ∙ z) (f .1 .1))
 
       -- The turn below, where a value a that the turn tries is played, in words y that hold its list and reasons.
       pub child-turn : (a : ℕ) → T (bit left a) → (y : List ℕ) → listIn n y ≡ nextList P (listIn n x) d a → whyIn n y ≡ nextReasons (whyIn n x) d → ReasonsBelow n y

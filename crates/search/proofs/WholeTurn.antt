@@ -1,14 +1,15 @@
 -- A whole turn, step by step: what its callees ask of it, and what their replies make of its contract. w are its words at entry, x those after its rules.
 use mathlib.Core.Path.{_≡_, refl, sym, ap, ap₂, subst, _∙_}
 use mathlib.Core.Bool.{Bool, true, false, cond, not, _&&_}
-use mathlib.Core.List.{List, [], _∷_, _++_}
+use mathlib.Core.List.{List, [], _∷_, _++_, append-nil}
 use mathlib.Core.Logic.{inr}
 use Prim.Native.Nat.{ℕ, suc, _+_, _-_, _*_, _^_, _≤_, _<_}
 use native.Mathlib.Omega.{arith}
 use lib.Dec.{T}
 use lib.Bits.{bitOr}
-use lib.ListN.{getD, length, take, drop, length-drop}
+use lib.ListN.{getD, length, take, drop, length-drop, drop-of-length-le}
 use lib.Seq.{getD-drop}
+use borrow.Rule.Slice.PartAt.{part-to-end}
 use Rattle.mask.specs.Range.{first}
 use Rattle.mask.specs.Mask.{bit, rest}
 use Rattle.mask.proofs.Members.{low-lt, low-in}
@@ -27,10 +28,10 @@ use Rattle.turn_words.proofs.ReasonBounds.{Below, below-in, below-out, explaine
 use Rattle.search.specs.TurnReply.{replyIn, roomOf, Blank, TurnIn, Stands, Leaves, TurnReplies}
 use Rattle.search.specs.TurnSteps.{Enters, EntersTurn, LeavesUntried}
 use Rattle.search.proofs.StandLaws.{plays-in}
-use Rattle.search.proofs.RoomTurns.{Mid, mid-start, mid-list, mid-why, leaves-leaf, leaf-handed, leaves-none, leaves-wiped, mid-lost, blank-lost, mid-won, leaf-up}
+use Rattle.search.proofs.RoomTurns.{Mid, mid-start, mid-list, mid-why, leaves-leaf, leaf-handed, leaves-none, leaves-wiped, mid-lost, blank-lost, mid-won, leaf-up, size-back}
 use Rattle.search.proofs.TurnLaws.{entered-lost, entered-some, entered-each, some-left, child-turn}
 use Rattle.search.proofs.ValueLaws.{some-end, some-won, some-jumps, each-end}
-use Rattle.search.proofs.LoopLaws.{replyBelow, Tries, SomeLoop, EachLoop, some-start, some-next, each-start, each-next, each-fail}
+use Rattle.search.proofs.LoopLaws.{replyBelow, Tries, SomeLoop, EachLoop, some-start, some-next, each-start, each-next, each-fail, each-less}
 
 -- What the turn is entered with, and what its rules reply.
 pub record AfterRules (n universal : ℕ) (near index rows : List ℕ) (S c d : ℕ) (w x : List ℕ) (lost : Bool) (conflict left : ℕ) (narrowed : Bool) : Type 0 where
@@ -42,20 +43,28 @@ pub record AfterRules (n universal : ℕ) (near index rows : List ℕ) (S c d : 
   pub small : (k : ℕ) → getD w k 0 < 65536
   pub rules : EntersTurn n universal near index rows S c d w x lost conflict left narrowed
 
--- One value: y are the words before it, `some` what is left to try, a the lowest of it, h the words with a handed down, v those lent to the turn below.
-pub record Trying (n d : ℕ) (x : List ℕ) (left : ℕ) (y : List ℕ) (some a : ℕ) (h v : List ℕ) : Type 0 where
+-- Of the words h those behind the turn's own, lent to the turn below; and the whole with e in their place.
+abbrev pub lentOf : List ℕ → List ℕ
+lentOf h = take (length h - 128) (drop 128 h)
+
+abbrev pub putBack : List ℕ → List ℕ → List ℕ
+putBack h e = take 128 h ++ (e ++ drop (length h - 128) (drop 128 h))
+
+nothing-behind : (h e : List ℕ) → putBack h e ≡ take 128 h ++ e
+nothing-behind h e = ap (λ (l : List ℕ). take 128 h ++ (e ++ l)) (drop-of-length-le (drop 128 h) {i = length h - 128} (omega (arith, length-drop 128 h))) ∙ ap (λ (l : List ℕ). take 128 h ++ l) (append-nil e)
+
+-- One value: y are the words before it, `some` what is left to try, a the lowest of it, h the words with a handed down.
+pub record Trying (n d : ℕ) (x : List ℕ) (left : ℕ) (y : List ℕ) (some a : ℕ) (h : List ℕ) : Type 0 where
   pub mid : Mid n (roomOf n d) x y
   pub less : some < 2 ^ 16
   pub part : (b : ℕ) → T (bit some b) → T (bit left b)
   pub more : ¬ (some ≡ 0)
   pub lowest : a ≡ first 16 (bit some)
   pub down : h ≡ handedDown d a y
-  pub lent : v ≡ drop 128 h
 
--- The turn below has replied and left e; r is the whole room then.
-pub record Answered (n universal : ℕ) (near index rows : List ℕ) (S d : ℕ) (h v e r : List ℕ) (won : Bool) (q : ℕ) : Type 0 where
-  pub reply : TurnReplies n universal near index rows S d (d + 1) v e won q
-  pub back : r ≡ take 128 h ++ e
+-- The turn below has replied and left e.
+pub record Answered (n universal : ℕ) (near index rows : List ℕ) (S d : ℕ) (h e : List ℕ) (won : Bool) (q : ℕ) : Type 0 where
+  pub reply : TurnReplies n universal near index rows S d (d + 1) (lentOf h) e won q
 
 -- A reply in numbers.
 says-lost : (n : ℕ) (won : Bool) (q q' : ℕ) (w' : List ℕ) → won ≡ false → q ≡ q' → failed q' ≡ replyIn n won q w'
@@ -108,6 +117,9 @@ module _ {n universal : ℕ} {near index rows : List ℕ} {S c d : ℕ} {w x : L
   own-fits : 128 ≤ t
   own-fits = let l = A .unplayed in omega arith
 
+  pub mid-fits : {y : List ℕ} → Mid n t x y → 128 ≤ length y
+  mid-fits m = let s = m .size in let z = rules-size in let f = A .fits in let l = own-fits in omega arith
+
   -- A loss that the rules found.
   pub rules-lost : lost ≡ true → (won : Bool) (q : ℕ) (w' : List ℕ) → won ≡ false → q ≡ handed (uses S 6) d conflict → w' ≡ cleared x
       → TurnReplies n universal near index rows S c d w w' won q
@@ -131,8 +143,14 @@ module _ {n universal : ℕ} {near index rows : List ℕ} {S c d : ℕ} {w x : L
     tries : (P : Problem) → States P n universal near index rows → (p : List ℕ) → TurnIn P n S c d p w → Tries P n S d p left x
     tries P st p u = child-turn P n universal near index rows st S c d p w u (A .unplayed) x lost conflict left narrowed (enters P st p u) calm
 
-    module _ {y : List ℕ} {some a : ℕ} {h v : List ℕ} (B : Trying n d x left y some a h v) where
-      open Trying B using (mid, less, part, more, lowest, down, lent)
+    module _ {y : List ℕ} {some a : ℕ} {h : List ℕ} (B : Trying n d x left y some a h) where
+      open Trying B using (mid, less, part, more, lowest, down)
+
+      abbrev v : List ℕ
+      v = lentOf h
+
+      lent : v ≡ drop 128 h
+      lent = part-to-end h 128
 
       here : T (bit left a)
       here = part a (subst (λ k. T (bit some k)) (sym lowest) (low-in 16 some less more))
@@ -172,8 +190,9 @@ module _ {n universal : ℕ} {near index rows : List ℕ} {S c d : ℕ} {w x : L
           let i : length v ≡ length h - 128 = ap length lent ∙ length-drop 128 h in
           let j : length h ≡ length y = ap length down ∙ q in omega arith
 
-      module _ {e r : List ℕ} {won : Bool} {q : ℕ} (R : Answered n universal near index rows S d h v e r won q) where
-        open Answered R using (back)
+      module _ {e : List ℕ} {won : Bool} {q : ℕ} (R : Answered n universal near index rows S d h e won q) where
+        back : putBack h e ≡ take 128 h ++ e
+        back = nothing-behind h e
 
         fits-x : t ≤ length x
         fits-x = let f = A .fits in let z = rules-size in omega arith
@@ -191,17 +210,23 @@ module _ {n universal : ℕ} {near index rows : List ℕ} {S c d : ℕ} {w x : L
         reply : (P : Problem) → States P n universal near index rows → (p : List ℕ) → TurnIn P n S c d p w → replyBelow P n S d p x a ≡ replyIn n won q e
         reply P st p u = reply-at P st p (tries P st p u)
 
-        pub lost-mid : won ≡ false → Mid n t x r
-        lost-mid = mid-lost n d a t x y h e r mid won (A .most) (A .unplayed) refl fits-x down leaves back
+        pub back-size : length (putBack h e) ≡ length x
+        back-size = size-back n d a t x y h e (putBack h e) mid won (A .most) (A .unplayed) refl fits-x down leaves back
 
-        pub lost-blank : won ≡ false → Blank t y → Blank t r
-        lost-blank = blank-lost n d a t x y h e r mid won (A .most) (A .unplayed) refl fits-x down leaves back
+        pub back-deep : 256 ≤ length (putBack h e)
+        back-deep = let l = A .unplayed in let f = fits-x in let z = back-size in omega arith
 
-        pub won-mid : (r' : List ℕ) → r' ≡ leafTaken r → Mid n t x r'
-        won-mid = mid-won n d a t x y h e r mid won (A .most) (A .unplayed) refl fits-x down leaves back
+        pub lost-mid : won ≡ false → Mid n t x (putBack h e)
+        lost-mid = mid-lost n d a t x y h e (putBack h e) mid won (A .most) (A .unplayed) refl fits-x down leaves back
 
-        won-leaf : (r' : List ℕ) → r' ≡ leafTaken r → leafIn n r' ≡ leafIn n e
-        won-leaf = leaf-up n d a t x y h e r mid won (A .most) (A .unplayed) refl fits-x down leaves back
+        pub lost-blank : won ≡ false → Blank t y → Blank t (putBack h e)
+        lost-blank = blank-lost n d a t x y h e (putBack h e) mid won (A .most) (A .unplayed) refl fits-x down leaves back
+
+        pub won-mid : (r' : List ℕ) → r' ≡ leafTaken (putBack h e) → Mid n t x r'
+        won-mid = mid-won n d a t x y h e (putBack h e) mid won (A .most) (A .unplayed) refl fits-x down leaves back
+
+        won-leaf : (r' : List ℕ) → r' ≡ leafTaken (putBack h e) → leafIn n r' ≡ leafIn n e
+        won-leaf = leaf-up n d a t x y h e (putBack h e) mid won (A .most) (A .unplayed) refl fits-x down leaves back
 
     -- THE EXISTENTIAL TURN -------------------------------------------------------------------------------------------------------
     module _ (u : bit universal d ≡ false) {J₀ : ℕ} (starts : Starts near d narrowed x J₀) where
@@ -209,8 +234,8 @@ module _ {n universal : ℕ} {near index rows : List ℕ} {S c d : ℕ} {w x : L
           → search P S c (n - d) p (listIn n w) (whyIn n w) ≡ handUp (uses S 6) d (someValue (uses S 6) d left (replyBelow P n S d p x) 16 0 J₀)
       whole P st p i = entered-some P n universal near index rows st S c d p w i (A .unplayed) x lost conflict left narrowed (enters P st p i) calm u J₀ starts rules-reasons
 
-      pub some-begins : left < 2 ^ 16 → SomeLoop n universal near index rows S d t x J₀ left x J₀ left
-      some-begins l = some-start n universal near index rows S d t x J₀ left leaf-fits rules-blank l
+      pub some-begins : ((k : ℕ) → getD x k 0 < 65536) → SomeLoop n universal near index rows S d t x J₀ left x J₀ left
+      some-begins l = some-start n universal near index rows S d t x J₀ left leaf-fits rules-blank (subst (λ k. k < 2 ^ 16) (sym (own .tried calm)) (l d))
 
       module _ {y : List ℕ} {J some : ℕ} (L : SomeLoop n universal near index rows S d t x J₀ left y J some) where
         -- All values are lost.
@@ -223,36 +248,35 @@ module _ {n universal : ℕ} {near index rows : List ℕ} {S c d : ℕ} {w x : L
           subst (λ b. Leaves n t b w w') (sym f) (leaves-none n t x y (L .mid) (A .most) w w' rules-size far (A .fits) own-fits (L .blank) e),
         )
 
-        module _ {a : ℕ} {h v : List ℕ} (B : Trying n d x left y some a h v) {e r : List ℕ} {won : Bool} {q : ℕ}
-            (R : Answered n universal near index rows S d h v e r won q) where
+        module _ {a : ℕ} {h : List ℕ} (B : Trying n d x left y some a h) {e : List ℕ} {won : Bool} {q : ℕ} (R : Answered n universal near index rows S d h e won q) where
           -- A value that wins.
-          pub some-wins : won ≡ true → (won' : Bool) (q' : ℕ) (w' : List ℕ) → won' ≡ true → w' ≡ cleared (leafTaken r)
+          pub some-wins : won ≡ true → (won' : Bool) (q' : ℕ) (w' : List ℕ) → won' ≡ true → w' ≡ cleared (leafTaken (putBack h e))
               → TurnReplies n universal near index rows S c d w w' won' q'
           some-wins z won' q' w' f g =
-              let m = won-mid B R (leafTaken r) refl in (
+              let m = won-mid B R (leafTaken (putBack h e)) refl in (
                 λ P st p i. whole P st p i
                     ∙ up-won (uses S 6) d _ (leafIn n e)
                     (some-won (uses S 6) d (replyBelow P n S d p x) some J _ (L .same P st p (tries P st p i)) (L .small) (B .more) a (B .lowest) (leafIn n e) (said-won n _ won q e (reply B R P st p i) z))
-                    ∙ says-won n won' q' (leafIn n e) w' f (leaf-handed n t x (leafTaken r) m (A .most) w w' rules-size far (A .fits) own-fits g ∙ won-leaf B R (leafTaken r) refl),
-                subst (λ b. Leaves n t b w w') (sym f) (leaves-leaf n t x (leafTaken r) m (A .most) w w' rules-size far (A .fits) own-fits g),
+                    ∙ says-won n won' q' (leafIn n e) w' f (leaf-handed n t x (leafTaken (putBack h e)) m (A .most) w w' rules-size far (A .fits) own-fits g ∙ won-leaf B R (leafTaken (putBack h e)) refl),
+                subst (λ b. Leaves n t b w w') (sym f) (leaves-leaf n t x (leafTaken (putBack h e)) m (A .most) w w' rules-size far (A .fits) own-fits g),
               )
 
           -- A value whose loss ends the turn.
-          pub some-leaves : won ≡ false → (uses S 6 && not (bit q d)) ≡ true → (won' : Bool) (q' : ℕ) (w' : List ℕ) → won' ≡ false → q' ≡ handed (uses S 6) d q → w' ≡ cleared r
+          pub some-leaves : won ≡ false → (uses S 6 && not (bit q d)) ≡ true → (won' : Bool) (q' : ℕ) (w' : List ℕ) → won' ≡ false → q' ≡ handed (uses S 6) d q → w' ≡ cleared (putBack h e)
               → TurnReplies n universal near index rows S c d w w' won' q'
           some-leaves z jump won' q' w' f g k = (
             λ P st p i. whole P st p i
                 ∙ up-lost (uses S 6) d _ q
                 (some-jumps (uses S 6) d (replyBelow P n S d p x) some J _ (L .same P st p (tries P st p i)) (L .small) (B .more) a (B .lowest) q (said-lost n _ won q e (reply B R P st p i) z) jump)
                 ∙ says-lost n won' q' (handed (uses S 6) d q) w' f g,
-            subst (λ b. Leaves n t b w w') (sym f) (leaves-none n t x r (lost-mid B R z) (A .most) w w' rules-size far (A .fits) own-fits (lost-blank B R z (L .blank)) k),
+            subst (λ b. Leaves n t b w w') (sym f) (leaves-none n t x (putBack h e) (lost-mid B R z) (A .most) w w' rules-size far (A .fits) own-fits (lost-blank B R z (L .blank)) k),
           )
 
           -- Any other loss.
           pub some-goes-on : won ≡ false → (uses S 6 && not (bit q d)) ≡ false → (J' some' : ℕ) → some' ≡ rest some → J' ≡ bitOr J q
-              → SomeLoop n universal near index rows S d t x J₀ left r J' some'
+              → SomeLoop n universal near index rows S d t x J₀ left (putBack h e) J' some'
           some-goes-on z jump J' some' f g =
-              some-next n universal near index rows S d t x J₀ left y J some L (B .more) a (B .lowest) r (lost-mid B R z) (lost-blank B R z (L .blank)) q J' some' jump
+              some-next n universal near index rows S d t x J₀ left y J some L (B .more) a (B .lowest) (putBack h e) (lost-mid B R z) (lost-blank B R z (L .blank)) q J' some' jump
               (λ P st p u. said-lost n _ won q e (reply-at B R P st p u) z) f g
 
     -- THE UNIVERSAL TURN ---------------------------------------------------------------------------------------------------------
@@ -261,8 +285,8 @@ module _ {n universal : ℕ} {near index rows : List ℕ} {S c d : ℕ} {w x : L
           → search P S c (n - d) p (listIn n w) (whyIn n w) ≡ handUp (uses S 6) d (eachValue (λ q a. uses S 7 && skippable P (listIn n x) d q a) (replyBelow P n S d p x) 16 0 left p)
       all P st p i = entered-each P n universal near index rows st S c d p w i (A .unplayed) x lost conflict left narrowed (enters P st p i) calm u
 
-      pub each-begins : left < 2 ^ 16 → EachLoop n universal near index rows S d t x left x left
-      each-begins l = each-start n universal near index rows S d t x left leaf-fits rules-blank l
+      pub each-begins : ((k : ℕ) → getD x k 0 < 65536) → EachLoop n universal near index rows S d t x left x left
+      each-begins l = each-start n universal near index rows S d t x left leaf-fits rules-blank (subst (λ k. k < 2 ^ 16) (sym (own .tried calm)) (l d))
 
       module _ {y : List ℕ} {some : ℕ} (L : EachLoop n universal near index rows S d t x left y some) where
         -- All values win.
@@ -276,21 +300,20 @@ module _ {n universal : ℕ} {near index rows : List ℕ} {S c d : ℕ} {w x : L
           subst (λ b. Leaves n t b w w') (sym f) (leaves-leaf n t x y (L .mid) (A .most) w w' rules-size far (A .fits) own-fits e),
         )
 
-        module _ {a : ℕ} {h v : List ℕ} (B : Trying n d x left y some a h v) {e r : List ℕ} {won : Bool} {q : ℕ}
-            (R : Answered n universal near index rows S d h v e r won q) where
+        module _ {a : ℕ} {h : List ℕ} (B : Trying n d x left y some a h) {e : List ℕ} {won : Bool} {q : ℕ} (R : Answered n universal near index rows S d h e won q) where
           -- A value that is lost.
-          pub each-fails : won ≡ false → (won' : Bool) (q' : ℕ) (w' : List ℕ) → won' ≡ false → q' ≡ handed (uses S 6) d q → w' ≡ cleared (leafCleared r)
+          pub each-fails : won ≡ false → (won' : Bool) (q' : ℕ) (w' : List ℕ) → won' ≡ false → q' ≡ handed (uses S 6) d q → w' ≡ cleared (leafCleared (putBack h e))
               → TurnReplies n universal near index rows S c d w w' won' q'
           each-fails z won' q' w' f g k = (
             λ P st p i. all P st p i
                 ∙ up-lost (uses S 6) d _ q
                 (each-fail n universal near index rows S d t x left y some L (B .more) a (B .lowest) P st p (tries P st p i) q (said-lost n _ won q e (reply B R P st p i) z))
                 ∙ says-lost n won' q' (handed (uses S 6) d q) w' f g,
-            subst (λ b. Leaves n t b w w') (sym f) (leaves-wiped n t x r (lost-mid B R z) (A .most) w w' rules-size far (A .fits) own-fits k),
+            subst (λ b. Leaves n t b w w') (sym f) (leaves-wiped n t x (putBack h e) (lost-mid B R z) (A .most) w w' rules-size far (A .fits) own-fits k),
           )
 
           -- A value that wins: its leaf is taken up, and the values are left that rule 7 does not skip.
-          pub each-goes-on : won ≡ true → (r' : List ℕ) → r' ≡ leafTaken r → (some' : ℕ) → LeavesUntried n universal near index rows S d some a r' some'
+          pub each-goes-on : won ≡ true → (r' : List ℕ) → r' ≡ leafTaken (putBack h e) → (some' : ℕ) → LeavesUntried n universal near index rows S d some a r' some'
               → EachLoop n universal near index rows S d t x left r' some'
           each-goes-on z r' g some' f =
               let m = won-mid B R r' g in
@@ -298,3 +321,11 @@ module _ {n universal : ℕ} {near index rows : List ℕ} {S c d : ℕ} {w x : L
               (λ P st. f P st (m .small) ∙ ap (λ (l : List ℕ). untried (λ b. uses S 7 && skippable P l d (leafIn n r') b) a some) (mid-list n t x r' m (A .most)))
               (λ P st p u. said-won n _ won q e (reply-at B R P st p u) z ∙ ap solved (sym (won-leaf B R r' g)))
               (record { problem = A .stands .problem; states = A .stands .states })
+
+          pub each-shrinks : (r' : List ℕ) → r' ≡ leafTaken (putBack h e) → (some' : ℕ) → LeavesUntried n universal near index rows S d some a r' some'
+              → (first 16 (bit some) < 16) × (first 16 (bit some) < first 16 (bit some'))
+          each-shrinks r' g some' f =
+              let s = A .stands in
+              let k = low-lt 16 some (L .small) (B .more) in
+              let l = each-less n universal near index rows S d t x left y some L (B .more) a (B .lowest) _ some' (f (s .problem) (s .states) (won-mid B R r' g .small)) in
+              (k, subst (λ i. i < first 16 (bit some')) (B .lowest) l)
