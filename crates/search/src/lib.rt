@@ -1,6 +1,5 @@
-// Steps of the search's turns: what a turn does before, between and after its values, and the last turn, where no variable
-// is left. The two turns that call each other come above them. A turn's words are the first 128 of the room that it is
-// lent: domains 0..32, reasons 32..96, leaf 96..128; the next turn is lent what is behind them. All is for the search alone.
+// The search: two turns, one per side, that call each other until no variable is left. A turn's words are the first 128
+// of the room that it is lent: domains 0..32, reasons 32..96, leaf 96..128; the next turn is lent what is behind them.
 ghost use mathlib.Core.Path.{_≡_};
 ghost use mathlib.Core.Bool.{true, false, not, _&&_};
 ghost use Prim.Native.Nat.{_≤_, _<_};
@@ -12,11 +11,13 @@ ghost use Rattle.arrays.specs.Arrays.{InRange};
 ghost use Rattle.forward_rule.specs.Replies.{Nonzero};
 ghost use Rattle.turn_rules.specs.RuledTurn.{Stated};
 ghost use Rattle.turn_words.specs.TurnRoom.{cleared, leafCleared, leafTaken};
-ghost use Rattle.search.specs.TurnReply.{Blank, Stands, TurnReplies};
+ghost use Rattle.search.specs.TurnReply.{roomOf, Blank, Stands, TurnReplies};
 ghost use Rattle.search.specs.TurnSteps.{EntersTurn, LeavesUntried};
 use leaf_test::copy_leaf;
 use leaf_test::first_broken;
 use mask::contains_32;
+use mask::lowest;
+use mask::rest_of;
 use narrow_rules::narrow_next;
 use skip_rule::skippable_values;
 use skip_rule::untried_after;
@@ -24,7 +25,9 @@ use turn_rules::in_use;
 use turn_rules::run_rules;
 use turn_words::clear;
 use turn_words::clear_leaf;
+use turn_words::hand_down;
 use turn_words::handed;
+use turn_words::start_set;
 use turn_words::take_leaf;
 
 // What a turn hands up: won, with its leaf in the words; or lost with a conflict set.
@@ -72,8 +75,8 @@ pub struct Entered {
     pub narrowed: bool,
 }
 
-// The rules of a turn with variable d left, and its domain narrowed.
-fn enter(
+// The rules of a turn with variable d left, and its domain narrowed. Public for the first turn of a run.
+pub fn enter(
     near: &[u32; 32],
     index: &[u16; 1024],
     rows: &[u16; 15888],
@@ -187,4 +190,121 @@ fn untried_next(
         );
     }
     untried_after(left, a, 0)
+}
+
+// The turn after d plays, whose variable d is existential.
+pub fn existential_turn(
+    near: &[u32; 32],
+    index: &[u16; 1024],
+    rows: &[u16; 15888],
+    n: usize,
+    universal: u32,
+    set: u8,
+    c: usize,
+    d: usize,
+    room: &mut [u16],
+) -> Outcome
+    requires { ⌜ (n ≤ 32) × (d < n) × (bit universal d ≡ false) × (roomOf n d ≤ length (now room)) × InRange (now index) × Blank (roomOf n d) (now room) × Stands n universal (now near) (now index) (now rows) set c d (now room) ⌝ }
+    ensures { λ r. ⌜ TurnReplies n universal (now (near .entry)) (now (index .entry)) (now (rows .entry)) set c d (now (room .entry)) (now (room .exit)) (r .won) (r .conflict) ⌝ }
+{
+    let e = enter(near, index, rows, n, universal, set, c, d, room);
+    if e.lost {
+        return lost_with(set, d, e.conflict, room);
+    }
+    let mut j = start_set(near, d, e.narrowed, room);
+    let mut left = e.left;
+    while left != 0 {
+        hand_down(d, lowest(left) as usize, room);
+        let o = turn(
+            near,
+            index,
+            rows,
+            n,
+            universal,
+            set,
+            d,
+            d + 1,
+            &mut room[128..],
+        );
+        if o.won {
+            return won_below(room);
+        }
+        if jumps(set, d, o.conflict) {
+            return lost_with(set, d, o.conflict, room);
+        }
+        j = j | o.conflict;
+        left = rest_of(left);
+    }
+    lost_with(set, d, j, room)
+}
+
+// The turn after d plays, whose variable d is universal.
+pub fn universal_turn(
+    near: &[u32; 32],
+    index: &[u16; 1024],
+    rows: &[u16; 15888],
+    n: usize,
+    universal: u32,
+    set: u8,
+    c: usize,
+    d: usize,
+    room: &mut [u16],
+) -> Outcome
+    requires { ⌜ (n ≤ 32) × (d < n) × (bit universal d ≡ true) × (roomOf n d ≤ length (now room)) × InRange (now index) × Blank (roomOf n d) (now room) × Stands n universal (now near) (now index) (now rows) set c d (now room) ⌝ }
+    ensures { λ r. ⌜ TurnReplies n universal (now (near .entry)) (now (index .entry)) (now (rows .entry)) set c d (now (room .entry)) (now (room .exit)) (r .won) (r .conflict) ⌝ }
+{
+    let e = enter(near, index, rows, n, universal, set, c, d, room);
+    if e.lost {
+        return lost_with(set, d, e.conflict, room);
+    }
+    let mut left = e.left;
+    while left != 0 {
+        let a = lowest(left) as usize;
+        hand_down(d, a, room);
+        let o = turn(
+            near,
+            index,
+            rows,
+            n,
+            universal,
+            set,
+            d,
+            d + 1,
+            &mut room[128..],
+        );
+        if !o.won {
+            return lost_after(set, d, o.conflict, room);
+        }
+        take_leaf(room);
+        left = untried_next(near, index, rows, n, universal, set, d, left, a, room);
+    }
+    clear(room);
+    Outcome {
+        won: true,
+        conflict: 0,
+    }
+}
+
+// The turn after d plays.
+pub fn turn(
+    near: &[u32; 32],
+    index: &[u16; 1024],
+    rows: &[u16; 15888],
+    n: usize,
+    universal: u32,
+    set: u8,
+    c: usize,
+    d: usize,
+    room: &mut [u16],
+) -> Outcome
+    requires { ⌜ (n ≤ 32) × (d ≤ n) × (roomOf n d ≤ length (now room)) × InRange (now index) × Blank (roomOf n d) (now room) × Stands n universal (now near) (now index) (now rows) set c d (now room) ⌝ }
+    ensures { λ r. ⌜ TurnReplies n universal (now (near .entry)) (now (index .entry)) (now (rows .entry)) set c d (now (room .entry)) (now (room .exit)) (r .won) (r .conflict) ⌝ }
+{
+    if d == n {
+        return last_turn(near, index, rows, n, universal, set, c, room);
+    }
+    if contains_32(universal, d) {
+        return universal_turn(near, index, rows, n, universal, set, c, d, room);
+    }
+    existential_turn(near, index, rows, n, universal, set, c, d, room)
 }
