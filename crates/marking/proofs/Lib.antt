@@ -1,0 +1,4 @@
+-- A position with one play more.
+pub mod PlayedLaws
+-- The loop over the next variable's values.
+pub mod MarkLaws

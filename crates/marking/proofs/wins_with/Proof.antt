@@ -1,0 +1,45 @@
+use mathlib.Core.Path.{_≡_, sym, ap, subst, _∙_}
+use mathlib.Core.List.{List}
+use Prim.Native.Nat.{ℕ}
+use lib.Dec.{T}
+use lib.ListN.{length}
+use borrow.Author.Needs.{needs}
+use Rattle.game.specs.Search.{is-solved, searchFrom}
+use Rattle.position.specs.declared.Position.{Position}
+use Rattle.position.specs.Position.{playsOf, fitsIn}
+use Rattle.marking.proofs.PlayedLaws.{plays-pushed, pushed-fits, won-is}
+use Rattle.marking.proofs.wins_with.Statement.{statement}
+use Rattle.marking.proofs.wins_with.Tie as tie
+
+-- The places of the position.
+long : (s : tie.Start) → length (s .args .p .values) ≡ 32
+long s = search needs
+
+cast-pushed : tie.Need-cast-pushed
+cast-pushed c = search needs
+
+pushed-requires : tie.Need-pushed-requires
+pushed-requires c κs = search needs
+
+run-requires : tie.Need-run-requires
+run-requires c κs =
+    let s = c .before .before .before in
+    let p = s .pre in
+    let o = p .7 .poses in
+    (p .0, subst (λ (q : Position). T (fitsIn q (s .args .n) (s .args .domains .now))) (sym (c .before .pushed .ensures)) (pushed-fits _ _ _ (p .4) (p .0) (long s) (p .1) _ (p .7 .problem) (o .states .size) (o .domain) (p .3)), p .5, p .6, p .7)
+
+same-length : tie.Need-same-length
+same-length c = search needs
+
+returns : tie.Need-returns
+returns c =
+    let s = c .before .before .before .before .before .before in
+    let p = s .pre in
+    let r = c .before .before .run .ensures in (
+      λ P o. won-is _ _ _ _ (r .0 P o .outcome)
+          ∙ ap (λ (l : List ℕ). is-solved (searchFrom P (s .args .set) l)) (ap playsOf (c .before .before .before .before .pushed .ensures) ∙ plays-pushed _ _ _ (p .4) (p .0) (long s) (p .1) _),
+      r .1,
+    )
+
+pub wins-with-spec : {M : Type 1} → statement M
+wins-with-spec = tie.close (tie.spec cast-pushed pushed-requires run-requires same-length returns)
