@@ -14,3 +14,5 @@ pub mod RoomTurns
 pub mod StandLaws
 -- What the loop of a turn keeps.
 pub mod LoopLaws
+-- A whole turn, step by step.
+pub mod WholeTurn

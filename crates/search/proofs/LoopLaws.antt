@@ -9,19 +9,21 @@ use lib.Bits.{bitOr}
 use lib.ListN.{getD, length}
 use Rattle.mask.specs.Range.{first}
 use Rattle.mask.specs.Mask.{bit, rest}
-use Rattle.mask.proofs.Logic.{and-out}
-use Rattle.mask.proofs.Members.{bit-rest, rest-lt}
+use Rattle.mask.proofs.Logic.{and-out, clash, by-eq, by-lt}
+use Rattle.mask.proofs.Range.{first-of}
+use Rattle.mask.proofs.Members.{bit-rest, rest-lt, low-lt, low-in}
 use Rattle.game.specs.Problem.{Problem}
 use Rattle.game.specs.Turn.{nextList}
 use Rattle.game.specs.Reasons.{nextReasons}
 use Rattle.game.specs.Rule.{uses}
-use Rattle.game.specs.Search.{Verdict, solved, failed, someValue, eachValue, skippable, search}
+use Rattle.game.specs.Search.{Verdict, solved, failed, someValue, eachValue, untried, skippable, search}
 use Rattle.arrays.specs.Arrays.{States}
 use Rattle.arrays.specs.Words.{listIn, whyIn, leafIn}
 use Rattle.turn_words.specs.TurnSets.{ReasonsBelow}
+use Rattle.turn_rules.specs.RuledTurn.{Stated}
 use Rattle.search.specs.TurnReply.{TurnIn, Blank}
 use Rattle.search.proofs.RoomTurns.{Mid, mid-start}
-use Rattle.search.proofs.ValueLaws.{some-on}
+use Rattle.search.proofs.ValueLaws.{some-on, each-lost, each-on, untried-past, untried-small, untried-part}
 
 -- What the turn below replies where value a of d is played over the words x.
 abbrev pub replyBelow : Problem → ℕ → ℕ → ℕ → List ℕ → List ℕ → ℕ → Verdict
@@ -75,3 +77,41 @@ module _ (n universal : ℕ) (near index rows : List ℕ) (S d t : ℕ) (x : Lis
     part = λ a m. m;
     same = λ P st p tries q h g. ap (eachValue (λ q a. uses S 7 && skippable P (listIn n x) d q a) (replyBelow P n S d p x) 16 0 left) (h refl);
   }
+
+  -- The leaf that the next value starts from: whatever it is, its reply is the same.
+  last-leaf : (left₀ : ℕ) (y : List ℕ) (left : ℕ) (p : List ℕ) → (q : List ℕ) × (left ≡ left₀ → q ≡ p) × (¬ (left ≡ left₀) → q ≡ leafIn n y)
+  last-leaf left₀ y left p = by-eq left left₀ (λ e. (p, λ _. refl, λ o. absurd (o e))) (λ o. (leafIn n y, λ e. absurd (o e), λ _. refl))
+
+  module _ (left₀ : ℕ) (y : List ℕ) (left : ℕ) (l : EachLoop n universal near index rows S d t x left₀ y left) (z : ¬ (left ≡ 0)) (a : ℕ) (e : a ≡ first 16 (bit left)) where
+    -- A value that is lost.
+    pub each-fail : (P : Problem) → States P n universal near index rows → (p : List ℕ) → Tries P n S d p left₀ x → (q : ℕ) → replyBelow P n S d p x a ≡ failed q
+        → eachValue (λ q a. uses S 7 && skippable P (listIn n x) d q a) (replyBelow P n S d p x) 16 0 left₀ p ≡ failed q
+    each-fail P st p tries q f =
+        let b = last-leaf left₀ y left p in
+        each-lost (λ q a. uses S 7 && skippable P (listIn n x) d q a) (replyBelow P n S d p x) left (b .0) _ (l .same P st p tries (b .0) (b .1) (b .2)) (l .small) z a e q f
+
+    -- One value more, won with the leaf in y'.
+    pub each-next : (y' : List ℕ) → Mid n t x y' → (left' : ℕ)
+        → ((P : Problem) → States P n universal near index rows → left' ≡ untried (λ b. uses S 7 && skippable P (listIn n x) d (leafIn n y') b) a left)
+        → ((P : Problem) → States P n universal near index rows → (p : List ℕ) → Tries P n S d p left₀ x → replyBelow P n S d p x a ≡ solved (leafIn n y'))
+        → Stated n universal near index rows → EachLoop n universal near index rows S d t x left₀ y' left'
+    each-next y' m left' g f s =
+        let here : T (bit left₀ a) = l .part a (subst (λ k. T (bit left k)) (sym e) (low-in 16 left (l .small) z)) in
+        let below : a < 16 = let b = low-lt 16 left (l .small) z in omega (arith, e) in
+        let is = g (s .problem) (s .states) in
+        let gone : ¬ (left' ≡ left₀) = λ o. clash (untried-past (λ b. uses S 7 && skippable (s .problem) (listIn n x) d (leafIn n y') b) a left below a (omega arith)) (subst (λ k. T (bit k a)) (sym o ∙ is) here) in
+        record {
+          mid = m;
+          small = subst (λ k. k < 2 ^ 16) (sym is) (untried-small _ a left);
+          part = λ v h. l .part v (untried-part _ a left v (subst (λ k. T (bit k v)) is h));
+          same = λ P st p tries q o r.
+              let b = last-leaf left₀ y left p in
+              ap (eachValue (λ q a. uses S 7 && skippable P (listIn n x) d q a) (replyBelow P n S d p x) 16 0 left') (r gone)
+              ∙ each-on (λ q a. uses S 7 && skippable P (listIn n x) d q a) (replyBelow P n S d p x) left (b .0) _ (l .same P st p tries (b .0) (b .1) (b .2)) (l .small) z a e (leafIn n y') left' (f P st p tries) (g P st);
+        }
+
+    -- Its lowest member is higher.
+    pub each-less : (g : ℕ → Bool) (left' : ℕ) → left' ≡ untried g a left → a < first 16 (bit left')
+    each-less g left' is = by-lt a (first 16 (bit left')) (λ h. h) λ h.
+        let b = low-lt 16 left (l .small) z in
+        absurd (clash (untried-past g a left (omega (arith, e)) (first 16 (bit left')) (omega arith)) (subst (λ k. T (bit k (first 16 (bit left')))) is (first-of 16 (bit left') (omega (arith, e)))))

@@ -104,7 +104,7 @@ module _ (n d a t : ℕ) (x y h e r : List ℕ) (m : Mid n t x y) (won : Bool) (
   first-words : length (take 128 h) ≡ 128
   first-words = let l = long in length-take-le 128 h (omega arith)
 
-  size-back : length r ≡ length x
+  pub size-back : length r ≡ length x
   size-back = let l = long in let f = first-words in let g = left .size in ap length back ∙ length-append (take 128 h) e ∙ omega (arith, length-drop 128 h)
 
   low : (k : ℕ) → k < 128 → getD r k 0 ≡ getD y k 0

@@ -1,5 +1,6 @@
 -- What the words of a turn give its rules: some problem, plays in single masks, no variable without a value.
 use mathlib.Core.Path.{_≡_, sym, ap, subst, _∙_}
+use mathlib.Core.Bool.{Bool}
 use mathlib.Core.List.{List}
 use Prim.Native.Nat.{ℕ, _^_, _≤_, _<_}
 use native.Mathlib.Omega.{arith}
@@ -18,7 +19,7 @@ use Rattle.arrays.specs.Words.{listIn, whyIn}
 use Rattle.arrays.proofs.WordLaws.{getD-listIn}
 use Rattle.forward_rule.specs.Replies.{Nonzero}
 use Rattle.turn_rules.specs.RuledTurn.{Stated, Plays}
-use Rattle.search.specs.TurnReply.{TurnIn, Stands}
+use Rattle.search.specs.TurnReply.{TurnIn, Stands, TurnReplies}
 use Rattle.search.proofs.LastLaws.{played}
 
 pub plays-in : (P : Problem) (n universal : ℕ) (near index rows : List ℕ) → States P n universal near index rows → (S c d : ℕ) (p w : List ℕ)
@@ -47,3 +48,11 @@ module _ (n universal : ℕ) (near index rows : List ℕ) (S c d : ℕ) (w : Lis
       let e = s .states .size in
       let f = lent-out (s .problem) (listIn n w) (a .may) .full j (omega arith) in
       clash (bit-of-zero (f .0)) (subst (λ m. T (bit m (f .0))) (getD-listIn n w j h ∙ z) (f .1 .1))
+
+-- All variables are played: what is said at d is said at n.
+module _ (n universal : ℕ) (near index rows : List ℕ) (S c d : ℕ) (w : List ℕ) (e : d ≡ n) where
+  pub last-stands : Stands n universal near index rows S c d w → Stands n universal near index rows S c n w
+  last-stands s = subst (λ k. Stands n universal near index rows S c k w) e s
+
+  pub last-replies : (w' : List ℕ) (won : Bool) (q : ℕ) → TurnReplies n universal near index rows S c n w w' won q → TurnReplies n universal near index rows S c d w w' won q
+  last-replies w' won q r = subst (λ k. TurnReplies n universal near index rows S c k w w' won q) (sym e) r

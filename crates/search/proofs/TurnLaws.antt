@@ -7,6 +7,8 @@ use native.Mathlib.Omega.{arith}
 use lib.Dec.{T, eqb}
 use lib.ListN.{getD, length}
 use Rattle.mask.specs.Mask.{bit}
+use Rattle.mask.proofs.Logic.{clash}
+use Rattle.mask.proofs.Bits.{bit-of-zero}
 use Rattle.game.specs.Problem.{Problem}
 use Rattle.game.specs.Lists.{domains, narrowTo}
 use Rattle.game.specs.Rule.{uses}
@@ -14,7 +16,8 @@ use Rattle.game.specs.Turn.{nextList, reached}
 use Rattle.game.specs.Reasons.{Step, explained, nextReasons}
 use Rattle.game.specs.Search.{Verdict, solved, failed, handed, handUp, someValue, eachValue, skippable, startSet, narrowNext, search}
 use Rattle.theory.proofs.Theorems as theorems
-use Rattle.theory.proofs.Turns.{inner, search-next}
+use Rattle.theory.proofs.Lists.{lent-out}
+use Rattle.theory.proofs.Turns.{inner, search-next, turn-at}
 use Rattle.theory.proofs.TurnLists.{snoc-length}
 use Rattle.theory.proofs.SearchNotions.{TurnOf, below, turnBelow}
 use Rattle.arrays.specs.Arrays.{States}
@@ -101,22 +104,37 @@ module _ (P : Problem) (n universal : ℕ) (near index rows : List ℕ) (st : St
           (λ a. search P S d (n - suc d) (p ++ (a ∷ [])) (nextList P m d a) (nextReasons R d)) 16 0 (getD m d 0) p)) (sym (E .list e)) (sym (E .why e))
           ∙ ap (λ m. handUp (uses S 6) d (eachValue (λ q a. uses S 7 && skippable P (listIn n x) d q a) (childReply x) 16 0 m p)) tried
 
+      calm' : reached P S c p (listIn n w) .loss ≡ false
+      calm' = sym (theorems.turn-loss P S plays legal-start c p (listIn n w) (whyIn n w) (turn .turn)) ∙ calm
+
+      unplayed : length p < P .n
+      unplayed = let z = st .size in let k = count in omega arith
+
+      -- The list of the game's turn.
+      pub reaches : listIn n x ≡ reached P S c p (listIn n w) .list
+      reaches = E .list e ∙ ap (λ i. narrowNext P S i (o .list) .list) (sym count) ∙ theorems.turn-reaches P S plays legal-start c p (listIn n w) (whyIn n w) (turn .turn) unplayed calm'
+
+      -- There is a value to try.
+      pub some-left : ¬ (left ≡ 0)
+      unfolding domains
+      some-left z =
+          let on = theorems.turn-position P S plays legal-start c p (listIn n w) (whyIn n w) (turn .turn) .1 in
+          let k = count in
+          let at = theorems.turn-continues P S c p (listIn n w) on (turn-at P S plays legal-start c p (listIn n w) (whyIn n w) (turn .turn) .checked) calm' in
+          let f = lent-out P (reached P S c p (listIn n w) .list) (at .may) .full (length p) unplayed in
+          clash (bit-of-zero (f .0))
+          (subst (λ m. T (bit m (f .0))) (ap (λ (v : List ℕ). getD v (length p) 0) (sym reaches) ∙ ap (λ i. getD (listIn n x) i 0) count ∙ tried ∙ z) (f .1 .1))
+
       -- The turn below, where a value a that the turn tries is played, in words y that hold its list and reasons.
       pub child-turn : (a : ℕ) → T (bit left a) → (y : List ℕ) → listIn n y ≡ nextList P (listIn n x) d a → whyIn n y ≡ nextReasons (whyIn n x) d → ReasonsBelow n y
           → TurnIn P n S d (suc d) (p ++ (a ∷ [])) y
       unfolding domains
       child-turn a m y l r b =
-          let z = st .size in
-          let k = count in
-          let lt : length p < P .n = omega arith in
-          let calm' : reached P S c p (listIn n w) .loss ≡ false = sym (theorems.turn-loss P S plays legal-start c p (listIn n w) (whyIn n w) (turn .turn)) ∙ calm in
-          let same : listIn n x ≡ reached P S c p (listIn n w) .list =
-          E .list e ∙ ap (λ i. narrowNext P S i (o .list) .list) (sym count) ∙ theorems.turn-reaches P S plays legal-start c p (listIn n w) (whyIn n w) (turn .turn) lt calm' in
           let in' : T (domains (reached P S c p (listIn n w) .list) (length p) a) =
-          subst (λ (v : List ℕ). T (bit (getD v (length p) 0) a)) same (subst (λ i. T (bit (getD (listIn n x) i 0) a)) (sym count) (subst (λ v. T (bit v a)) (sym tried) m)) in
-          let t = below a (turn .turn) lt calm' in' in
+          subst (λ (v : List ℕ). T (bit (getD v (length p) 0) a)) reaches (subst (λ i. T (bit (getD (listIn n x) i 0) a)) (sym count) (subst (λ v. T (bit v a)) (sym tried) m)) in
+          let t = below a (turn .turn) unplayed calm' in' in
           let lists : nextList P (reached P S c p (listIn n w) .list) (length p) a ≡ listIn n y =
-          ap₂ (λ (v : List ℕ) i. nextList P v i a) (sym same) count ∙ sym l in
+          ap₂ (λ (v : List ℕ) i. nextList P v i a) (sym reaches) count ∙ sym l in
           let whys : nextReasons (o .why) (length p) ≡ whyIn n y = ap₂ (λ (v : List ℕ) i. nextReasons v i) (sym (E .why e)) count ∙ sym r in
           record {
             plays = plays;

@@ -1,6 +1,6 @@
 -- The values of a turn, by the members of the mask that is left to try: the definitions go over all 16 values, the code over members. What is
 -- left, from the present set or leaf, is the whole reply: that equation is what a loop keeps.
-use mathlib.Core.Path.{_≡_, refl, sym, ap, _∙_, fun-ext}
+use mathlib.Core.Path.{_≡_, refl, sym, ap, subst, _∙_, fun-ext}
 use mathlib.Core.Bool.{Bool, true, false, cond, not, _&&_, _||_}
 use mathlib.Core.List.{List}
 use Prim.Native.Nat.{ℕ, zero, suc, _+_, _-_, _^_, _≤_, _<_}
@@ -10,10 +10,10 @@ use lib.Bits.{bitOr}
 use borrow.Author.Tests.{eq-eqb, ne-eqb, lt-ltb, le-ltb}
 use Rattle.mask.specs.Range.{first}
 use Rattle.mask.specs.Mask.{bit, maskOf, rest}
-use Rattle.mask.proofs.Logic.{holds, by-eq}
+use Rattle.mask.proofs.Logic.{holds, clash, and-out, by-eq, by-lt}
 use Rattle.mask.proofs.Range.{first-least}
-use Rattle.mask.proofs.Bits.{bit-of-zero}
-use Rattle.mask.proofs.Masks.{bit-maskOf, maskOf-same}
+use Rattle.mask.proofs.Bits.{bit-of-zero, bit-high}
+use Rattle.mask.proofs.Masks.{maskOf-lt, bit-maskOf, maskOf-same}
 use Rattle.mask.proofs.Members.{bit-rest, low-lt, low-in}
 use Rattle.game.specs.Search.{Verdict, solved, failed, or-else, and-also, someValue, untried, eachValue}
 
@@ -105,6 +105,22 @@ module _ (jump : Bool) (i : ℕ) (f : ℕ → Verdict) where
       pub some-on : (S left' J' : ℕ) → f a ≡ failed S → (jump && not (bit S i)) ≡ false → left' ≡ rest left → J' ≡ bitOr J S → someValue jump i left' f 16 0 J' ≡ whole
       some-on S left' J' g t p u = rw (p, u) (sym (step (failed S) g ∙ ap (λ y. cond y (failed S) (someValue jump i (rest left) f 16 0 (bitOr J S))) t))
 
+-- After value a nothing up to a is untried, and nothing that was not before.
+pub untried-past : (g : ℕ → Bool) (a u : ℕ) → a < 16 → (x : ℕ) → x < suc a → bit (untried g a u) x ≡ false
+unfolding untried
+untried-past g a u h x l =
+    bit-maskOf 16 (λ b. ltb a b && (bit u b && not (g b))) x (omega arith) ∙ ap (λ y. y && (bit u x && not (g x))) (le-ltb a x (omega arith))
+
+pub untried-small : (g : ℕ → Bool) (a u : ℕ) → untried g a u < 2 ^ 16
+unfolding untried
+untried-small g a u = maskOf-lt 16 (λ b. ltb a b && (bit u b && not (g b)))
+
+pub untried-part : (g : ℕ → Bool) (a u x : ℕ) → T (bit (untried g a u) x) → T (bit u x)
+unfolding untried
+untried-part g a u x t = by-lt x 16
+    (λ h. and-out (bit u x) (not (g x)) (and-out (ltb a x) (bit u x && not (g x)) (subst (λ b. T b) (bit-maskOf 16 (λ b. ltb a b && (bit u b && not (g b))) x h) t) .1) .0)
+    (λ h. absurd (clash (bit-high 16 (untried g a u) x (untried-small g a u) h) t))
+
 -- The universal turn -----------------------------------------------------------------------------------------------------------
 module _ (skips : List ℕ → ℕ → Bool) (f : ℕ → Verdict) where
   each-past : (m k v b u c : ℕ) (q : List ℕ) → u ≡ k + v → c ≡ k + b → ((x : ℕ) → b ≤ x → x < c → bit m x ≡ false) → eachValue skips f u b m q ≡ eachValue skips f v c m q
@@ -122,12 +138,6 @@ module _ (skips : List ℕ → ℕ → Bool) (f : ℕ → Verdict) where
   each-none (suc v) b q =
       ap (λ z. cond z (and-also (f b) (λ r. eachValue skips f v (suc b) (untried (skips r) b 0) r)) (eachValue skips f v (suc b) 0 q)) (bit-of-zero b)
       ∙ each-none v (suc b) q
-
-  -- After value a nothing up to a is untried.
-  untried-past : (g : ℕ → Bool) (a u : ℕ) → a < 16 → (x : ℕ) → x < suc a → bit (untried g a u) x ≡ false
-  unfolding untried
-  untried-past g a u h x l =
-      bit-maskOf 16 (λ b. ltb a b && (bit u b && not (g b))) x (omega arith) ∙ ap (λ y. y && (bit u x && not (g x))) (le-ltb a x (omega arith))
 
   module _ (m : ℕ) (h : m < 2 ^ 16) (z : ¬ (m ≡ 0)) (a : ℕ) (s : a ≡ first 16 (bit m)) where
     next-from : (r : List ℕ) → eachValue skips f (15 - a) (suc a) (untried (skips r) a m) r ≡ eachValue skips f 16 0 (untried (skips r) a m) r
