@@ -38,11 +38,11 @@ use Rattle.judging.specs.Inner.{Judges}
 use Rattle.judging.proofs.TestLaws.{test-fine, test-same}
 
 -- v is the test as the code makes it, t as the problem's.
-reply-refused : (v t : Verdict) (e p : ℕ) (values : List ℕ) → v ≡ Not e p → v ≡ t → refused e ≡ repliedFor t values
+pub reply-refused : (v t : Verdict) (e p : ℕ) (values : List ℕ) → v ≡ Not e p → v ≡ t → refused e ≡ repliedFor t values
 unfolding repliedFor
 reply-refused v t e p values q s = sym (ap (λ (w : Verdict). repliedFor w values) (sym s ∙ q))
 
-reply-told : (v t : Verdict) (r values : List ℕ) → v ≡ Fine → v ≡ t → r ≡ values → replied r ≡ repliedFor t values
+pub reply-told : (v t : Verdict) (r values : List ℕ) → v ≡ Fine → v ≡ t → r ≡ values → replied r ≡ repliedFor t values
 unfolding repliedFor
 reply-told v t r values q s e = ap replied e ∙ sym (ap (λ (w : Verdict). repliedFor w values) (sym s ∙ q))
 

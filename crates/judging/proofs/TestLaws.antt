@@ -11,6 +11,7 @@ use borrow.Author.Tests.{le-leb, leb-true}
 use Rattle.mask.specs.Range.{each}
 use Rattle.mask.proofs.Logic.{same, true-holds, and-in, by-lt}
 use Rattle.mask.proofs.Range.{each-in}
+use Rattle.refusal.specs.declared.Verdict.{Verdict}
 use Rattle.refusal.specs.declared.Verdict.the-variants.{Fine}
 use Rattle.refusal.specs.Chain.{_then_, need}
 use Rattle.refusal.proofs.Chain.{then-fine, need-fine}
@@ -23,12 +24,22 @@ use Rattle.search_run.specs.Run.{roomNeeded}
 use Rattle.judging.specs.Tests.{positionTest, roomTest, judgeTest}
 
 -- What fine tests say.
+pub position-fine : (n : ℕ) (masks : List ℕ) (p : Position) (set : ℕ) → positionTest n masks p set ≡ Fine → (set ≤ 127) × T (fitsIn p n masks)
+unfolding positionTest isRuleSet
+position-fine n masks p set e =
+    let b = then-fine _ _ e in
+    (leb-true set 127 (need-fine _ _ _ (b .0)), true-holds (need-fine _ _ _ (b .1)))
+
+pub room-fine : (n words : ℕ) → roomTest n words ≡ Fine → roomNeeded n ≤ words
+unfolding roomTest
+room-fine n words e = leb-true (roomNeeded n) words (need-fine _ _ _ e)
+
 pub test-fine : (n : ℕ) (masks : List ℕ) (p : Position) (set words : ℕ) → judgeTest n masks p set words ≡ Fine → (set ≤ 127) × T (fitsIn p n masks) × (roomNeeded n ≤ words)
-unfolding judgeTest positionTest roomTest isRuleSet
+unfolding judgeTest
 test-fine n masks p set words e =
     let a = then-fine _ _ e in
-    let b = then-fine _ _ (a .0) in
-    (leb-true set 127 (need-fine _ _ _ (b .0)), true-holds (need-fine _ _ _ (b .1)), leb-true (roomNeeded n) words (need-fine _ _ _ (a .1)))
+    let b = position-fine n masks p set (a .0) in
+    (b .0, b .1, room-fine n words (a .1))
 
 -- Masks from n on are not looked at.
 at-same : (p : Position) (n : ℕ) (masks : List ℕ) → p .plays ≤ n → (i : ℕ) → fitsAt p (take n masks) i ≡ fitsAt p masks i
@@ -49,9 +60,12 @@ fits-take p n masks =
     same (fitsIn p n (take n masks)) (fitsIn p n masks) (fits-from p n (take n masks) masks (λ i h. at-same p n masks h i)) (fits-from p n masks (take n masks) (λ i h. sym (at-same p n masks h i)))
 
 -- So the tests are those of the problem.
+pub position-same : (P : Problem) (n : ℕ) (masks : List ℕ) → P .n ≡ n → P .domain ≡ take n masks → (p : Position) (set : ℕ) → positionTest n masks p set ≡ positionTest (P .n) (P .domain) p set
+unfolding positionTest
+position-same P n masks e f p set =
+    ap (λ (b : Bool). need (isRuleSet set) 8 0 then need b 23 0) (sym (fits-take p n masks) ∙ ap₂ (fitsIn p) (sym e) (sym f))
+
 pub test-same : (P : Problem) (n : ℕ) (masks : List ℕ) → P .n ≡ n → P .domain ≡ take n masks → (p : Position) (set words : ℕ)
     → judgeTest n masks p set words ≡ judgeTest (P .n) (P .domain) p set words
-unfolding judgeTest positionTest
-test-same P n masks e f p set words =
-    let q : fitsIn p n masks ≡ fitsIn p (P .n) (P .domain) = sym (fits-take p n masks) ∙ ap₂ (fitsIn p) (sym e) (sym f) in
-    ap₂ (λ (b : Bool) (k : ℕ). (need (isRuleSet set) 8 0 then need b 23 0) then roomTest k words) q (sym e)
+unfolding judgeTest
+test-same P n masks e f p set words = ap₂ (λ (v : Verdict) (k : ℕ). v then roomTest k words) (position-same P n masks e f p set) (sym e)

@@ -16,6 +16,8 @@ use refusal::Verdict;
 use search_run::run;
 use tables::decode;
 use tests::judge_test;
+pub use tests::position_test;
+pub use tests::room_test;
 
 // What judging replies: won or lost; refused by number; the file's refusal with its place.
 pub enum Judged {

@@ -138,12 +138,12 @@ module _ (n universal : ℕ) (near index rows masks : List ℕ) (S : ℕ) (p : P
     unfolding markedValues domains
     marking-end z e b t s h P o =
         let j = length-plays p n masks t b s in
-        let d : m ≡ getD (P .domain) (length (playsOf p)) 0 = e ∙ sym (ap (λ i. getD (P .domain) i 0) j ∙ ap (λ (l : List ℕ). getD l (p .plays) 0) (o .domain) ∙ getD-take n masks (p .plays) 0 h) in (
+        let d : m ≡ getD (P .domain) (p .plays) 0 = e ∙ sym (ap (λ (l : List ℕ). getD l (p .plays) 0) (o .domain) ∙ getD-take n masks (p .plays) 0 h) in (
           bit-ext 16 won _ (l .few) (maskOf-lt 16 _) (λ i c. l .found P o i c
-          ∙ ap (λ x. (bit m i && not x) && is-solved (searchFrom P S (playsOf p ++ (i ∷ [])))) (ap (λ x. bit x i) z ∙ bit-of-zero i)
-          ∙ all (bit m i) (is-solved (searchFrom P S (playsOf p ++ (i ∷ []))))
-          ∙ ap (λ x. bit x i && is-solved (searchFrom P S (playsOf p ++ (i ∷ [])))) d
-          ∙ sym (bit-maskOf 16 (λ a. bit (getD (P .domain) (length (playsOf p)) 0) a && is-solved (searchFrom P S (playsOf p ++ (a ∷ [])))) i c)),
+              ∙ ap (λ x. (bit m i && not x) && is-solved (searchFrom P S (playsOf p ++ (i ∷ [])))) (ap (λ x. bit x i) z ∙ bit-of-zero i)
+              ∙ all (bit m i) (is-solved (searchFrom P S (playsOf p ++ (i ∷ []))))
+              ∙ ap (λ x. bit x i && is-solved (searchFrom P S (playsOf p ++ (i ∷ [])))) (d ∙ ap (λ k. getD (P .domain) k 0) (sym j))
+              ∙ sym (bit-maskOf 16 (λ a. bit (getD (P .domain) (length (playsOf p)) 0) a && is-solved (searchFrom P S (playsOf p ++ (a ∷ [])))) i c)),
           d,
         )
       where

@@ -1,4 +1,6 @@
 -- Marks of a position.
 
--- What wins, and what is told of it.
+-- Which values win, over the arrays of a problem.
 pub mod Marks
+-- What is told, and what the room holds afterwards.
+pub mod Marking

@@ -1,99 +1,83 @@
-// Marks: which values of a position's next variable win when played, each searched by itself. `mark` is open to callers.
+// Marks: which values of a position's next variable win when played. `mark` is open to callers.
 ghost use mathlib.Core.Path.{_≡_};
-ghost use Prim.Native.Nat.{_≤_, _<_};
-ghost use lib.Dec.{T};
-ghost use lib.ListN.{length, getD};
-ghost use Rattle.mask.specs.Mask.{bit};
+ghost use Prim.Native.Nat.{_≤_};
+ghost use lib.ListN.{length};
 ghost use Rattle.arrays.specs.Arrays.{InRange};
-ghost use Rattle.position.specs.Position.{fitsIn};
-ghost use Rattle.turn_words.specs.TurnRoom.{zeroed};
-ghost use Rattle.search_run.specs.Run.{roomNeeded, Posed};
-ghost use Rattle.marking.specs.Marks.{WinsWith, Wins, withValue};
-use mask::lowest;
-use mask::rest_of;
-use mask::single;
+ghost use Rattle.rules.specs.Alone.{Bytes};
+ghost use Rattle.search_run.specs.Run.{Posed};
+ghost use Rattle.marking.specs.Marking.{told, markTest, markTold, markLeft, MarksIn};
+
+mod values;
+
+use judging::position_test;
+use judging::room_test;
 use position::Position;
-use position::pushed;
-use search_run::run;
+use problem_file::Header;
+use refusal::Verdict;
+use refusal::first;
+use refusal::needed;
+use tables::decode;
+use values::winning_values;
 
-// The winning values of a position's next variable, and its domain.
-pub struct Marks {
-    pub winning: u16,
-    pub domain: u16,
+// What marking replies: the winning values and the domain of the next variable; refused by number; the file's refusal with
+// its place.
+pub enum Marked {
+    Values(u16, u16),
+    Refused(u8),
+    RefusedAt(u8, usize),
 }
 
-// Whether value a of the next variable wins when played.
-fn wins_with(
+// The tests of marking: 8, 23, 22, 12.
+fn mark_test(n: usize, domains: &[u16; 32], p: Position, set: usize, words: usize) -> Verdict
+    requires { ⌜ n ≤ 32 ⌝ }
+    ensures { λ r. ⌜ r ≡ markTest n (now (domains .entry)) p set words ⌝ }
+{
+    let s = position_test(n, domains, p, set);
+    let t = needed(p.plays < n, 22, 0);
+    let u = room_test(n, words);
+    first(s, first(t, u))
+}
+
+// Marks over the arrays of a problem.
+fn mark_in(
     near: &[u32; 32],
     index: &[u16; 1024],
     rows: &[u16; 15888],
     n: usize,
     universal: u32,
     domains: &[u16; 32],
-    set: u8,
     p: Position,
-    a: usize,
+    set: usize,
     room: &mut [u16],
-) -> bool
-    requires { ⌜ (n ≤ 32) × (p .plays < n) × (a < 16) × T (bit (getD (now domains) (p .plays) 0) a) × T (fitsIn p n (now domains)) × (roomNeeded n ≤ length (now room)) × InRange (now index) × Posed n universal (now near) (now index) (now rows) (now domains) ⌝ }
-    ensures { λ r. ⌜ WinsWith n universal (now (near .entry)) (now (index .entry)) (now (rows .entry)) (now (domains .entry)) set p a r × (now (room .exit) ≡ zeroed 0 (roomNeeded n) (now (room .entry))) ⌝ }
+) -> Marked
+    requires { ⌜ (n ≤ 32) × InRange (now index) × Posed n universal (now near) (now index) (now rows) (now domains) ⌝ }
+    ensures { λ r. ⌜ MarksIn n universal (now (near .entry)) (now (index .entry)) (now (rows .entry)) (now (domains .entry)) p set (now (room .entry)) (now (room .exit)) r ⌝ }
 {
-    run(
-        near,
-        index,
-        rows,
-        n,
-        universal,
-        domains,
-        set,
-        pushed(p, a as u8),
-        room,
-    ).won
-}
-
-// The mask m with value a in it where it wins.
-fn with_value(m: u16, a: usize, wins: bool) -> u16
-    requires { ⌜ a < 16 ⌝ }
-    ensures { λ r. ⌜ r ≡ withValue m a wins ⌝ }
-{
-    if wins { m | single(a) } else { m }
-}
-
-// The domain of the variable after d plays.
-fn next_domain(domains: &[u16; 32], d: usize) -> u16
-    requires { ⌜ d < 32 ⌝ }
-    ensures { λ r. ⌜ r ≡ getD (now (domains .entry)) d 0 ⌝ }
-{
-    domains[d]
-}
-
-// The values of the next variable that win, and its domain.
-pub fn winning_values(
-    near: &[u32; 32],
-    index: &[u16; 1024],
-    rows: &[u16; 15888],
-    n: usize,
-    universal: u32,
-    domains: &[u16; 32],
-    set: u8,
-    p: Position,
-    room: &mut [u16],
-) -> Marks
-    requires { ⌜ (n ≤ 32) × (p .plays < n) × T (fitsIn p n (now domains)) × (roomNeeded n ≤ length (now room)) × InRange (now index) × Posed n universal (now near) (now index) (now rows) (now domains) ⌝ }
-    ensures { λ r. ⌜ Wins n universal (now (near .entry)) (now (index .entry)) (now (rows .entry)) (now (domains .entry)) set p (r .winning) (r .domain) × (now (room .exit) ≡ zeroed 0 (roomNeeded n) (now (room .entry))) ⌝ }
-{
-    let d = p.plays;
-    let m = next_domain(domains, d);
-    let mut won: u16 = 0;
-    let mut left = m;
-    while left != 0 {
-        let a = lowest(left) as usize;
-        let w = wins_with(near, index, rows, n, universal, domains, set, p, a, room);
-        won = with_value(won, a, w);
-        left = rest_of(left);
+    let v = mark_test(n, domains, p, set, room.len());
+    match v {
+        Verdict::Refused(number, _) => Marked::Refused(number),
+        Verdict::Fine => {
+            let m = winning_values(near, index, rows, n, universal, domains, set as u8, p, room);
+            Marked::Values(m.winning, m.domain)
+        }
     }
-    Marks {
-        winning: won,
-        domain: m,
+}
+
+// The marks of the position's next variable, by searches under the rule set of this number. The room is left as by judging.
+pub fn mark(f: &[u8], p: Position, set: usize, room: &mut [u16]) -> Marked
+    ensures { λ r. ⌜ ((bytes : Bytes (now (f .entry))) → told r ≡ markTold (now (f .entry)) bytes p set (length (now (room .entry)))) ⌝ }
+    ensures { λ r. ⌜ ((bytes : Bytes (now (f .entry))) → now (room .exit) ≡ markLeft (now (f .entry)) bytes p set (now (room .entry))) ⌝ }
+{
+    let mut near = [0u32; 32];
+    let mut index = [0u16; 1024];
+    let mut rows = [0u16; 15888];
+    let r = decode(f, &mut near, &mut index, &mut rows);
+    let h = r.header;
+    let d = r.domains;
+    match h {
+        Header::Refused(number, place) => Marked::RefusedAt(number, place),
+        Header::Accepted(n, _, _, u) => {
+            mark_in(&near, &index, &rows, n as usize, u, &d, p, set, room)
+        }
     }
 }

@@ -3,8 +3,8 @@ use mathlib.Core.Bool.{cond}
 use lib.Bits.{bitOr}
 use borrow.Author.Needs.{needs}
 use Rattle.marking.specs.Marks.{withValue}
-use Rattle.marking.proofs.with_value.Statement.{statement}
-use Rattle.marking.proofs.with_value.Tie as tie
+use Rattle.marking.proofs.values.with_value.Statement.{statement}
+use Rattle.marking.proofs.values.with_value.Tie as tie
 
 single-requires : tie.Need-single-requires
 single-requires c κs = search needs

@@ -8,8 +8,8 @@ use Rattle.game.specs.Search.{is-solved, searchFrom}
 use Rattle.position.specs.declared.Position.{Position}
 use Rattle.position.specs.Position.{playsOf, fitsIn}
 use Rattle.marking.proofs.PlayedLaws.{plays-pushed, pushed-fits, won-is}
-use Rattle.marking.proofs.wins_with.Statement.{statement}
-use Rattle.marking.proofs.wins_with.Tie as tie
+use Rattle.marking.proofs.values.wins_with.Statement.{statement}
+use Rattle.marking.proofs.values.wins_with.Tie as tie
 
 -- The places of the position.
 long : (s : tie.Start) → length (s .args .p .values) ≡ 32

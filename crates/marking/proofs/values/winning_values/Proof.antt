@@ -5,8 +5,8 @@ use borrow.Author.Needs.{needs}
 use Rattle.mask.proofs.Members.{rest-lt}
 use Rattle.search_run.specs.Run.{roomNeeded}
 use Rattle.marking.proofs.MarkLaws.{Marking, marking-start, marking-at, marking-next, marking-room, marking-end}
-use Rattle.marking.proofs.winning_values.Statement.{statement}
-use Rattle.marking.proofs.winning_values.Tie as tie
+use Rattle.marking.proofs.values.winning_values.Statement.{statement}
+use Rattle.marking.proofs.values.winning_values.Tie as tie
 
 abbrev Inv-loop : tie.InvT-loop
 Inv-loop near index rows n universal domains set p room₀ d m won₀ left₀ room won left = Marking n universal near index rows domains set p (roomNeeded n) room₀ m room won left

@@ -1,0 +1,99 @@
+// The winning values of a position's next variable, each searched by itself.
+ghost use mathlib.Core.Path.{_≡_};
+ghost use Prim.Native.Nat.{_≤_, _<_};
+ghost use lib.Dec.{T};
+ghost use lib.ListN.{length, getD};
+ghost use Rattle.mask.specs.Mask.{bit};
+ghost use Rattle.arrays.specs.Arrays.{InRange};
+ghost use Rattle.position.specs.Position.{fitsIn};
+ghost use Rattle.turn_words.specs.TurnRoom.{zeroed};
+ghost use Rattle.search_run.specs.Run.{roomNeeded, Posed};
+ghost use Rattle.marking.specs.Marks.{WinsWith, Wins, withValue};
+use mask::lowest;
+use mask::rest_of;
+use mask::single;
+use position::Position;
+use position::pushed;
+use search_run::run;
+
+// The winning values of a position's next variable, and its domain.
+pub struct Marks {
+    pub winning: u16,
+    pub domain: u16,
+}
+
+// Whether value a of the next variable wins when played.
+fn wins_with(
+    near: &[u32; 32],
+    index: &[u16; 1024],
+    rows: &[u16; 15888],
+    n: usize,
+    universal: u32,
+    domains: &[u16; 32],
+    set: u8,
+    p: Position,
+    a: usize,
+    room: &mut [u16],
+) -> bool
+    requires { ⌜ (n ≤ 32) × (p .plays < n) × (a < 16) × T (bit (getD (now domains) (p .plays) 0) a) × T (fitsIn p n (now domains)) × (roomNeeded n ≤ length (now room)) × InRange (now index) × Posed n universal (now near) (now index) (now rows) (now domains) ⌝ }
+    ensures { λ r. ⌜ WinsWith n universal (now (near .entry)) (now (index .entry)) (now (rows .entry)) (now (domains .entry)) set p a r × (now (room .exit) ≡ zeroed 0 (roomNeeded n) (now (room .entry))) ⌝ }
+{
+    run(
+        near,
+        index,
+        rows,
+        n,
+        universal,
+        domains,
+        set,
+        pushed(p, a as u8),
+        room,
+    ).won
+}
+
+// The mask m with value a in it where it wins.
+fn with_value(m: u16, a: usize, wins: bool) -> u16
+    requires { ⌜ a < 16 ⌝ }
+    ensures { λ r. ⌜ r ≡ withValue m a wins ⌝ }
+{
+    if wins { m | single(a) } else { m }
+}
+
+// The domain of the variable after d plays.
+fn next_domain(domains: &[u16; 32], d: usize) -> u16
+    requires { ⌜ d < 32 ⌝ }
+    ensures { λ r. ⌜ r ≡ getD (now (domains .entry)) d 0 ⌝ }
+{
+    domains[d]
+}
+
+// The values of the next variable that win, and its domain.
+pub fn winning_values(
+    near: &[u32; 32],
+    index: &[u16; 1024],
+    rows: &[u16; 15888],
+    n: usize,
+    universal: u32,
+    domains: &[u16; 32],
+    set: u8,
+    p: Position,
+    room: &mut [u16],
+) -> Marks
+    requires { ⌜ (n ≤ 32) × (p .plays < n) × T (fitsIn p n (now domains)) × (roomNeeded n ≤ length (now room)) × InRange (now index) × Posed n universal (now near) (now index) (now rows) (now domains) ⌝ }
+    ensures { λ r. ⌜ Wins n universal (now (near .entry)) (now (index .entry)) (now (rows .entry)) (now (domains .entry)) set p (r .winning) (r .domain) × (now (room .exit) ≡ zeroed 0 (roomNeeded n) (now (room .entry))) ⌝ }
+{
+    let d = p.plays;
+    let m = next_domain(domains, d);
+    let mut won: u16 = 0;
+    let mut left = m;
+    while left != 0 {
+        let a = lowest(left) as usize;
+        let w = wins_with(near, index, rows, n, universal, domains, set, p, a, room);
+        won = with_value(won, a, w);
+        left = rest_of(left);
+    }
+    Marks {
+        winning: won,
+        domain: m,
+    }
+}
