@@ -2,3 +2,5 @@
 pub mod PlayedLaws
 -- The loop over the next variable's values.
 pub mod MarkLaws
+-- What is told and left.
+pub mod ReplyLaws
