@@ -1,6 +1,8 @@
 // The session's core by value: a play, a take-back and the open values of a position. Each call reads the file first, then
 // tests the position, then its argument. `play`, `take_back` and `open_values` are open to callers.
 ghost use mathlib.Core.Path.{_≡_};
+ghost use Rattle.rules.specs.Alone.{Bytes};
+ghost use Rattle.session.specs.Told.{told, toldOpened, playTold, playLeft, takeBackTold, takeBackLeft, openTold, masksShown, countsShown};
 
 mod open;
 mod plays;
@@ -36,7 +38,10 @@ pub struct Opened {
 }
 
 // Plays this value of the next variable.
-pub fn play(f: &[u8], p: Position, value: usize) -> Played {
+pub fn play(f: &[u8], p: Position, value: usize) -> Played
+    ensures { λ r. ⌜ ((bytes : Bytes (now (f .entry))) → told (r .answer) ≡ playTold (now (f .entry)) bytes p value) ⌝ }
+    ensures { λ r. ⌜ ((bytes : Bytes (now (f .entry))) → r .position ≡ playLeft (now (f .entry)) bytes p value) ⌝ }
+{
     let r = read(f);
     let h = r.header;
     let d = r.domains;
@@ -50,7 +55,10 @@ pub fn play(f: &[u8], p: Position, value: usize) -> Played {
 }
 
 // Takes the last play back.
-pub fn take_back(f: &[u8], p: Position) -> Played {
+pub fn take_back(f: &[u8], p: Position) -> Played
+    ensures { λ r. ⌜ ((bytes : Bytes (now (f .entry))) → told (r .answer) ≡ takeBackTold (now (f .entry)) bytes p) ⌝ }
+    ensures { λ r. ⌜ ((bytes : Bytes (now (f .entry))) → r .position ≡ takeBackLeft (now (f .entry)) bytes p) ⌝ }
+{
     let r = read(f);
     let h = r.header;
     let d = r.domains;
@@ -64,7 +72,10 @@ pub fn take_back(f: &[u8], p: Position) -> Played {
 }
 
 // The open values of every variable.
-pub fn open_values(f: &[u8], p: Position) -> Opened {
+pub fn open_values(f: &[u8], p: Position) -> Opened
+    ensures { λ r. ⌜ ((bytes : Bytes (now (f .entry))) → toldOpened r ≡ openTold (now (f .entry)) bytes p) ⌝ }
+    ensures { λ r. ⌜ ((bytes : Bytes (now (f .entry))) → (r .masks ≡ masksShown (now (f .entry)) bytes p) × (r .counts ≡ countsShown (now (f .entry)) bytes p)) ⌝ }
+{
     let mut near = [0u32; 32];
     let mut index = [0u16; 1024];
     let mut rows = [0u16; 15888];

@@ -1,5 +1,11 @@
 // The open values of a position over the arrays of a problem.
 ghost use mathlib.Core.Path.{_≡_};
+ghost use Prim.Native.Nat.{_%_, _≤_, _<_};
+ghost use lib.ListN.{getD};
+ghost use Rattle.mask.specs.Range.{count};
+ghost use Rattle.mask.specs.Mask.{bit};
+ghost use Rattle.arrays.specs.Arrays.{InRange};
+ghost use Rattle.session.specs.Opening.{spread, valueAt, goingWith, openMask, openMasks, maskCounts, OpenIn};
 use crate::Answer;
 use crate::Opened;
 use crate::plays::fit_test;
@@ -11,9 +17,18 @@ use mask::single;
 use position::Position;
 use refusal::Verdict;
 
+fn cut(value: u8) -> usize
+    ensures { λ r. ⌜ (r ≡ value % 16) × (r < 16) ⌝ }
+{
+    value as usize % 16
+}
+
 // The value at place i. One that was played is below 16, so the cut changes nothing.
-fn value_at(values: &[u8; 32], i: usize) -> usize {
-    values[i] as usize % 16
+fn value_at(values: &[u8; 32], i: usize) -> usize
+    requires { ⌜ i < 32 ⌝ }
+    ensures { λ r. ⌜ (r ≡ valueAt (now (values .entry)) i) × (r < 16) ⌝ }
+{
+    cut(values[i])
 }
 
 // The values in m of variable j that go with each of the first k values played.
@@ -24,7 +39,10 @@ fn going_with(
     k: usize,
     m: u16,
     j: usize,
-) -> u16 {
+) -> u16
+    requires { ⌜ (k ≤ 32) × (j < 32) × InRange (now index) ⌝ }
+    ensures { λ r. ⌜ r ≡ goingWith (now (index .entry)) (now (rows .entry)) (now (values .entry)) k m j ⌝ }
+{
     let mut out = m;
     let mut i = 0;
     while i < k {
@@ -43,7 +61,10 @@ fn open_mask(
     k: usize,
     m: u16,
     j: usize,
-) -> u16 {
+) -> u16
+    requires { ⌜ (k ≤ 32) × (j < 32) × InRange (now index) ⌝ }
+    ensures { λ r. ⌜ r ≡ openMask (now (index .entry)) (now (rows .entry)) (now (values .entry)) universal k m j ⌝ }
+{
     if j < k {
         return single(value_at(values, j));
     }
@@ -53,7 +74,9 @@ fn open_mask(
     going_with(index, rows, values, k, m, j)
 }
 
-fn count_byte(m: u16) -> u8 {
+fn count_byte(m: u16) -> u8
+    ensures { λ r. ⌜ r ≡ count 16 (bit m) ⌝ }
+{
     count_of(m) as u8
 }
 
@@ -65,7 +88,10 @@ fn open_all(
     domains: &[u16; 32],
     values: &[u8; 32],
     k: usize,
-) -> Opened {
+) -> Opened
+    requires { ⌜ (n ≤ 32) × (k ≤ 32) × InRange (now index) ⌝ }
+    ensures { λ r. ⌜ (r .answer ≡ Answer.Done) × (r .masks ≡ spread (openMasks (now (index .entry)) (now (rows .entry)) (now (values .entry)) universal (now (domains .entry)) k n)) × (r .counts ≡ spread (maskCounts (now (index .entry)) (now (rows .entry)) (now (values .entry)) universal (now (domains .entry)) k n)) ⌝ }
+{
     let mut masks = [0u16; 32];
     let mut counts = [0u8; 32];
     let mut j = 0;
@@ -89,7 +115,10 @@ pub fn open_in(
     universal: u32,
     domains: &[u16; 32],
     p: Position,
-) -> Opened {
+) -> Opened
+    requires { ⌜ (n ≤ 32) × InRange (now index) ⌝ }
+    ensures { λ r. ⌜ OpenIn n universal (now (index .entry)) (now (rows .entry)) (now (domains .entry)) p r ⌝ }
+{
     let v = fit_test(n, domains, p);
     match v {
         Verdict::Refused(number, _) => Opened {

@@ -32,5 +32,8 @@ pub fn said(a: Answer) -> Said {
 pub fn says(a: Answer, number: usize, place: usize) -> bool {
     let s = said(a);
     let of_file = both(0 < number, number < 10);
-    both(s.at_place == of_file, both(s.number == number, s.place == place))
+    both(
+        s.at_place == of_file,
+        both(s.number == number, s.place == place),
+    )
 }

@@ -62,7 +62,10 @@ fn shown(l: Plain) -> Position {
 // The call answered this number and led to the position of the plain list l.
 fn compared(t: Tally, d: Played, number: usize, l: Plain) -> Tally {
     let a = d.answer;
-    counted(t, both(says(a, number, 0), same_position(d.position, shown(l))))
+    counted(
+        t,
+        both(says(a, number, 0), same_position(d.position, shown(l))),
+    )
 }
 
 // A value to play: mostly one of 0 to 15, now and then a number that is one of these only when cut.
@@ -120,7 +123,11 @@ fn taken_back(f: &[u8], h: History) -> History {
 fn called(f: &[u8], h: History, down: bool) -> History {
     let k = h.random / 33554432 % 8;
     let bound = if down { 6 } else { 1 };
-    if k < bound { taken_back(f, h) } else { played(f, h) }
+    if k < bound {
+        taken_back(f, h)
+    } else {
+        played(f, h)
+    }
 }
 
 fn ones(m: usize) -> usize {
@@ -140,7 +147,10 @@ fn opens(f: &[u8], l: Plain, o: Opened) -> bool {
     let mut j = 0;
     while j < 32 {
         let m = open_mask(f, l, j);
-        ok = both(both(masks[j] as usize == m, counts[j] as usize == ones(m)), ok);
+        ok = both(
+            both(masks[j] as usize == m, counts[j] as usize == ones(m)),
+            ok,
+        );
         j += 1;
     }
     ok

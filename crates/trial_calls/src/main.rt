@@ -41,7 +41,11 @@ fn turned(s: &[u8], f: &[u8], p: Position, c: usize, kind: usize) -> bool
 {
     let number = byte(s, c + 3);
     let at = word(s, c + 4);
-    let q = if number == 0 { position_at(s, c + 8, byte(s, c + 7), 32) } else { p };
+    let q = if number == 0 {
+        position_at(s, c + 8, byte(s, c + 7), 32)
+    } else {
+        p
+    };
     if kind == 0 {
         return led(play(f, p, byte(s, c)), number, at, q);
     }
@@ -97,5 +101,8 @@ fn main() {
     report(b"take-back cases ", all_cases(1, s));
     report(b"open cases ", all_cases(3, s));
     report(b"games opened ", opens::all_games(s, plays.at));
-    report(b"calls in histories ", histories::all_histories(s, plays.at));
+    report(
+        b"calls in histories ",
+        histories::all_histories(s, plays.at),
+    );
 }
