@@ -3,25 +3,25 @@
 use refusal::both;
 use session::Answer;
 
-pub struct Said {
+pub struct Outcome {
     pub at_place: bool,
     pub number: usize,
     pub place: usize,
 }
 
-pub fn said(a: Answer) -> Said {
+pub fn outcome_of(a: Answer) -> Outcome {
     match a {
-        Answer::Done => Said {
+        Answer::Done => Outcome {
             at_place: false,
             number: 0,
             place: 0,
         },
-        Answer::Refused(e) => Said {
+        Answer::Refused(e) => Outcome {
             at_place: false,
             number: e as usize,
             place: 0,
         },
-        Answer::RefusedAt(e, p) => Said {
+        Answer::RefusedAt(e, p) => Outcome {
             at_place: true,
             number: e as usize,
             place: p,
@@ -30,7 +30,7 @@ pub fn said(a: Answer) -> Said {
 }
 
 pub fn says(a: Answer, number: usize, place: usize) -> bool {
-    let s = said(a);
+    let s = outcome_of(a);
     let of_file = both(0 < number, number < 10);
     both(
         s.at_place == of_file,

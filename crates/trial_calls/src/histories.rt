@@ -6,6 +6,7 @@ use crate::answers::says;
 use crate::plain::Plain;
 use crate::plain::added;
 use crate::plain::empty;
+use crate::plain::has;
 use crate::plain::open_mask;
 use crate::plain::play_refusal;
 use crate::plain::shortened;
@@ -130,12 +131,22 @@ fn called(f: &[u8], h: History, down: bool) -> History {
     }
 }
 
-fn ones(m: usize) -> usize {
-    let mut c = 0;
-    let mut left = m;
-    while left > 0 {
-        c = c + left % 2;
-        left = left / 2;
+fn wide(m: u16) -> usize {
+    m as usize
+}
+
+fn one_if(b: bool) -> u8
+    ensures { λ r. ⌜ r ≤ 1 ⌝ }
+{
+    if b { 1 } else { 0 }
+}
+
+fn ones(m: u16) -> u8 {
+    let mut c: u8 = 0;
+    let mut a = 0;
+    while a < 16 {
+        c += one_if(has(wide(m), a));
+        a += 1;
     }
     c
 }
@@ -147,16 +158,13 @@ fn opens(f: &[u8], l: Plain, o: Opened) -> bool {
     let mut j = 0;
     while j < 32 {
         let m = open_mask(f, l, j);
-        ok = both(
-            both(masks[j] as usize == m, counts[j] as usize == ones(m)),
-            ok,
-        );
+        ok = both(both(masks[j] == m, counts[j] == ones(m)), ok);
         j += 1;
     }
     ok
 }
 
-// 120 calls on one file, up and down, and the open values twice.
+// 120 calls on one file, up and down, and the open values at the end.
 fn one_history(f: &[u8], seed: u64, t: Tally) -> Tally {
     let mut h = History {
         random: seed,
@@ -164,7 +172,7 @@ fn one_history(f: &[u8], seed: u64, t: Tally) -> Tally {
         plain: empty(),
         tally: t,
     };
-    let mut k = 0;
+    let mut k: usize = 0;
     while k < 120 {
         h = called(f, h, k % 40 > 25);
         k += 1;

@@ -52,12 +52,19 @@ fn turned(s: &[u8], f: &[u8], p: Position, c: usize, kind: usize) -> bool
     led(take_back(f, p), number, at, q)
 }
 
-// Open values of the position p; where they are refused nothing is shown.
+// How many variables a reply shows: those of the file, and none where it is refused.
+fn shown_of(f: &[u8], number: usize) -> usize
+    ensures { λ r. ⌜ r ≤ 256 ⌝ }
+{
+    if number == 0 { byte(f, 2) } else { 0 }
+}
+
+// Open values of the position p.
 fn opened(s: &[u8], f: &[u8], p: Position, c: usize) -> bool
     requires { ⌜ c ≤ 1200000 ⌝ }
 {
     let number = byte(s, c + 3);
-    let n = if number == 0 { byte(f, 2) } else { 0 };
+    let n = shown_of(f, number);
     let o = open_values(f, p);
     let a = o.answer;
     both(says(a, number, word(s, c + 4)), shows(s, c + 7, n, o))

@@ -41,7 +41,8 @@ fn one_game(s: &[u8], t: Tally) -> Tally {
     let plays = byte(s, p);
     let q = p + 4 + plays;
     let o = open_values(f, position_at(s, p + 1, plays, plays));
-    let fine = says(o.answer, 0, 0);
+    let a = o.answer;
+    let fine = says(a, 0, 0);
     let u = counted(t, both(fine, shows(s, q, n, o)));
     moved(u, q + 3 * n)
 }

@@ -18,7 +18,7 @@ pub fn empty() -> Plain {
 }
 
 // The first byte of the variables.
-pub fn start(f: &[u8]) -> usize
+fn start(f: &[u8]) -> usize
     ensures { λ r. ⌜ r ≤ 8 ⌝ }
 {
     if byte(f, 5) == 82 { 8 } else { 5 }
@@ -28,7 +28,7 @@ fn power(a: usize) -> usize {
     if a < 16 { 1 << a } else { 65536 }
 }
 
-fn has(m: usize, a: usize) -> bool {
+pub fn has(m: usize, a: usize) -> bool {
     let w = power(a);
     if w == 0 { false } else { m / w % 2 == 1 }
 }
@@ -75,12 +75,11 @@ pub fn shortened(l: Plain) -> Plain {
     }
 }
 
-// Whether value a of i goes with value b of j, i below j, by the first constraint of the pair.
-fn goes(f: &[u8], i: usize, a: usize, j: usize, b: usize) -> bool
-    requires { ⌜ (a ≤ 256) × (i ≤ 256) ⌝ }
-{
+// Whether this value of i goes with value b of j, i below j, by every constraint of the pair.
+fn goes(f: &[u8], i: usize, value: u8, j: usize, b: usize) -> bool {
     let base = start(f) + 4 * byte(f, 2);
     let m = word(f, 3);
+    let a = value as usize;
     let mut ok = true;
     let mut t = 0;
     while t < m {
@@ -93,13 +92,30 @@ fn goes(f: &[u8], i: usize, a: usize, j: usize, b: usize) -> bool
     ok
 }
 
-// Whether value a of variable j is open.
-fn is_open(f: &[u8], l: Plain, j: usize, a: usize) -> bool
-    requires { ⌜ (j < 32) × (a < 16) ⌝ }
+fn item(l: Plain, i: usize) -> u8
+    requires { ⌜ i < 32 ⌝ }
 {
     let items = l.items;
+    items[i]
+}
+
+// Whether value a of variable j goes with the value at place i, if one stands there.
+fn goes_with(f: &[u8], l: Plain, i: usize, j: usize, a: usize) -> bool
+    requires { ⌜ i < 32 ⌝ }
+{
+    if i < l.count {
+        goes(f, i, item(l, i), j, a)
+    } else {
+        true
+    }
+}
+
+// Whether value a of variable j is open.
+fn is_open(f: &[u8], l: Plain, j: usize, a: usize) -> bool
+    requires { ⌜ j < 32 ⌝ }
+{
     if j < l.count {
-        return items[j] as usize == a;
+        return item(l, j) as usize == a;
     }
     let at = start(f) + 4 * j;
     let mut ok = has(word(f, at + 2), a);
@@ -108,28 +124,23 @@ fn is_open(f: &[u8], l: Plain, j: usize, a: usize) -> bool
     }
     let mut i = 0;
     while i < j {
-        if i < l.count {
-            ok = both(ok, goes(f, i, items[i] as usize, j, a));
-        }
+        ok = both(goes_with(f, l, i, j, a), ok);
         i += 1;
     }
     ok
 }
 
-// The mask of the open values of variable j below n.
-pub fn open_mask(f: &[u8], l: Plain, j: usize) -> usize
+// The mask of the open values of variable j, empty at n and above.
+pub fn open_mask(f: &[u8], l: Plain, j: usize) -> u16
     requires { ⌜ j < 32 ⌝ }
 {
-    if j >= byte(f, 2) {
-        return 0;
-    }
     let mut m: u16 = 0;
     let mut a = 0;
     while a < 16 {
-        if is_open(f, l, j, a) {
+        if both(j < byte(f, 2), is_open(f, l, j, a)) {
             m = m | (1 << a);
         }
         a += 1;
     }
-    m as usize
+    m
 }
