@@ -1,11 +1,11 @@
 -- Calls one after another: the position shows the plays that stand, and the replies are those of the plain list.
 use mathlib.Core.Path.{_≡_, refl, sym, ap, ap₂, _∙_}
-use mathlib.Core.Bool.{Bool, true, false, _&&_}
+use mathlib.Core.Bool.{Bool, true, false, cond, _&&_}
 use mathlib.Core.List.{List, [], _∷_, _++_}
 use Prim.Native.Nat.{ℕ, zero, suc, _≤_, _<_}
 use native.Mathlib.Omega.{arith}
 use lib.Dec.{T, eqb, ltb}
-use lib.ListN.{getD, length, take}
+use lib.ListN.{getD, length, length-append}
 use lib.Seq.{take-all}
 use borrow.Author.Tests.{ltb-true, lt-ltb, ne-eqb}
 use Rattle.mask.specs.Mask.{bit}
@@ -15,8 +15,11 @@ use Rattle.refusal.specs.declared.Verdict.the-variants.{Fine}
 use Rattle.refusal.specs.declared.Verdict.the-variants.{Refused as Not}
 use Rattle.refusal.specs.Chain.{_then_, need}
 use Rattle.refusal.proofs.Chain.{need-ok}
-use Rattle.refusal.specs.Told.{replied}
+use Rattle.refusal.specs.Told.{replied, refused}
+use Rattle.file_layout.specs.declared.Rules.{Rules}
 use Rattle.file_records.specs.Records.{verdictOf}
+use Rattle.problem_file.specs.Reading.{domainsOf}
+use Rattle.problem_file.proofs.Accepted.{Shows}
 use Rattle.game.specs.Problem.{Problem}
 use Rattle.game.specs.Lists.{domains}
 use Rattle.game.specs.Position.{legal}
@@ -30,15 +33,15 @@ use Rattle.rules.specs.Alone.{Bytes}
 use Rattle.position.specs.declared.Position.{Position}
 use Rattle.position.specs.Position.{shown, playsOf, pushed, popped, fitsIn}
 use Rattle.position.proofs.Fitting.{legal-fits}
-use Rattle.position.proofs.Shown.{plays-shown, pushed-shown, popped-shown}
+use Rattle.position.proofs.Shown.{plays-shown, pushed-shown, popped-shown, length-withoutLast}
 use Rattle.session.specs.declared.Played.{Played}
 use Rattle.session.specs.declared.Opened.{Opened}
 use Rattle.session.specs.declared.Answer.the-variants.{Done, Refused}
 use Rattle.session.specs.Plays.{answerBy, positionBy, fitTest, playTest, takeBackTest, playIn, takeBackIn}
 use Rattle.session.specs.Opening.{spread, listBy, openIn}
 use Rattle.session.specs.Told.{toldWith, told, toldOpened, openTold, masksShown, countsShown}
-use Rattle.session.specs.History.{callTold, step, reachedFrom, reachedBy, stepIn, listTold}
-use Rattle.session.proofs.FileLaws.{play-told, play-left, take-back-told, take-back-left, open-told, masks-shown, counts-shown}
+use Rattle.session.specs.History.{callTold, step, reachedFrom, reachedBy, stepIn, reachedIn, listTold}
+use Rattle.session.proofs.FileLaws.{play-told, play-left, take-back-told, take-back-left, open-told, masks-shown, counts-shown, play-read, take-back-read}
 
 module _ (P : Problem) (small : P .n ≤ 32) where
   -- A position that shows legal plays fits.
@@ -79,6 +82,37 @@ module _ (P : Problem) (small : P .n ≤ 32) where
   unfolding openIn answerBy listBy
   open-by l t = rw (fit-is l t, plays-shown l)
 
+-- ---- what the plain list says
+
+not-refused : {X : Type 0} (e : ℕ) (l : List ℕ) → replied l ≡ refused e → X
+not-refused e l q = let z : _≡_ {A = ℕ} 0 1 = cc in absurd (omega arith)
+
+-- A call that is refused leaves the list as it is.
+pub told-stays : (P : Problem) (l : List ℕ) (c : Call) (e : ℕ) → listTold P l c ≡ refused e → afterCall P l c ≡ l
+unfolding listTold afterCall withoutLast
+told-stays P l (play a) e q = by (ltb (length l) (P .n)) (domains (P .domain) (length l) a) q
+  where
+    by : (b d : Bool) → cond b (cond d (replied []) (refused 10)) (refused 20) ≡ refused e → cond (b && d) (l ++ (a ∷ [])) l ≡ l
+    by false d r = refl
+    by true false r = refl
+    by true true r = not-refused e [] r
+told-stays P [] takeBack e q = refl
+told-stays P (x ∷ l) takeBack e q = not-refused e [] (rw (ne-eqb (length (x ∷ l)) 0 (λ z. absurd (omega arith))) at q)
+
+-- A call that is done changes it.
+pub told-moves : (P : Problem) (l : List ℕ) (c : Call) → listTold P l c ≡ replied [] → ¬ (afterCall P l c ≡ l)
+unfolding listTold afterCall
+told-moves P l (play a) q = by (ltb (length l) (P .n)) (domains (P .domain) (length l) a) q
+  where
+    by : (b d : Bool) → cond b (cond d (replied []) (refused 10)) (refused 20) ≡ replied [] → ¬ (cond (b && d) (l ++ (a ∷ [])) l ≡ l)
+    by false d r = not-refused 20 [] (sym r)
+    by true false r = not-refused 10 [] (sym r)
+    by true true r = λ z. omega (arith, ap length z, length-append l (a ∷ []))
+told-moves P [] takeBack q = not-refused 21 [] (sym q)
+told-moves P (x ∷ l) takeBack q = λ z. omega (arith, ap length z, length-withoutLast x l)
+
+-- ---- over a file
+
 module _ (f : List ℕ) (bytes : Bytes f) (fine : verdictOf f ≡ Fine) where
   -- The problem of the file.
   abbrev P : Problem
@@ -108,6 +142,22 @@ module _ (f : List ℕ) (bytes : Bytes f) (fine : verdictOf f ≡ Fine) where
   pub reached-shows : (cs : List Call) → reachedBy f bytes cs ≡ shown (standing P cs)
   unfolding reachedBy standing standingFrom
   reached-shows cs = calls-lead [] cs (standing-legal P [])
+
+  -- The same position is reached over the reading's n and domains.
+  module _ (D : List ℕ) (n m : ℕ) (rules : Rules) (u : ℕ) (s : Shows f n m rules u) (d : D ≡ domainsOf f) where
+    step-read : (p : Position) (c : Call) → stepIn n D p c ≡ step f bytes p c
+    unfolding stepIn step
+    step-read p (play a) = play-read f bytes p D n m rules u s d a (playIn n D p a) refl .1
+    step-read p takeBack = take-back-read f bytes p D n m rules u s d (takeBackIn n D p) refl .1
+
+    from-read : (p : Position) (cs : List Call) → reachedIn n D p cs ≡ reachedFrom f bytes p cs
+    unfolding reachedIn reachedFrom
+    from-read p [] = refl
+    from-read p (c ∷ cs) = ap (λ (q : Position). reachedIn n D q cs) (step-read p c) ∙ from-read (step f bytes p c) cs
+
+    pub reached-read : (cs : List Call) → reachedIn n D (shown []) cs ≡ reachedBy f bytes cs
+    unfolding reachedBy
+    reached-read cs = from-read (shown []) cs
 
   -- It fits, and its plays are those.
   pub reached-fits : (cs : List Call) → T (fitsIn (reachedBy f bytes cs) (P .n) (P .domain))

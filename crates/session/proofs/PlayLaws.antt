@@ -59,17 +59,17 @@ module _ (n : ℕ) (masks : List ℕ) (p : Position) where
       (λ k. rw (q, le-ltb (p .plays) n k))
 
   -- The reply by the test: refused, the position is as it was; fine, it is the new one.
-  pub play-refused : (a e k : ℕ) → playTest n masks p a ≡ Not e k → record { answer = Refused e; position = p } ≡ playIn n masks p a
+  pub play-refused : (a e k : ℕ) (r : Played) → playTest n masks p a ≡ Not e k → r ≡ record { answer = Refused e; position = p } → r ≡ playIn n masks p a
   unfolding playIn answerBy positionBy
-  play-refused a e k q = rw q
+  play-refused a e k r q d = rw q d
 
   pub play-done : (a : ℕ) (r : Position) → playTest n masks p a ≡ Fine → r ≡ pushed p a → record { answer = Done; position = r } ≡ playIn n masks p a
   unfolding playIn answerBy positionBy
   play-done a r q e = rw (q, e)
 
-  pub take-back-refused : (e k : ℕ) → takeBackTest n masks p ≡ Not e k → record { answer = Refused e; position = p } ≡ takeBackIn n masks p
+  pub take-back-refused : (e k : ℕ) (r : Played) → takeBackTest n masks p ≡ Not e k → r ≡ record { answer = Refused e; position = p } → r ≡ takeBackIn n masks p
   unfolding takeBackIn answerBy positionBy
-  take-back-refused e k q = rw q
+  take-back-refused e k r q d = rw q d
 
   pub take-back-done : (r : Position) → takeBackTest n masks p ≡ Fine → r ≡ popped p → record { answer = Done; position = r } ≡ takeBackIn n masks p
   unfolding takeBackIn answerBy positionBy

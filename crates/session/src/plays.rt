@@ -71,16 +71,23 @@ fn take_back_test(n: usize, domains: &[u16; 32], p: Position) -> Verdict
     first(fit_test(n, domains, p), needed(0 < plays, 21, 0))
 }
 
+// A refused call returns the position that it was given.
+fn refuse(number: u8, p: Position) -> Played
+    ensures { λ r. ⌜ r ≡ record { answer = Answer.Refused number; position = p } ⌝ }
+{
+    Played {
+        answer: Answer::Refused(number),
+        position: p,
+    }
+}
+
 pub fn play_in(n: usize, domains: &[u16; 32], p: Position, value: usize) -> Played
     requires { ⌜ n ≤ 32 ⌝ }
     ensures { λ r. ⌜ r ≡ playIn n (now (domains .entry)) p value ⌝ }
 {
     let v = play_test(n, domains, p, value);
     match v {
-        Verdict::Refused(number, _) => Played {
-            answer: Answer::Refused(number),
-            position: p,
-        },
+        Verdict::Refused(number, _) => refuse(number, p),
         Verdict::Fine => {
             let plays = p.plays;
             let q = pushed(p, byte_of(domains[plays], value));
@@ -98,10 +105,7 @@ pub fn take_back_in(n: usize, domains: &[u16; 32], p: Position) -> Played
 {
     let v = take_back_test(n, domains, p);
     match v {
-        Verdict::Refused(number, _) => Played {
-            answer: Answer::Refused(number),
-            position: p,
-        },
+        Verdict::Refused(number, _) => refuse(number, p),
         Verdict::Fine => {
             let q = popped(p);
             Played {

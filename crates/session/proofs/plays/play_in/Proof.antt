@@ -1,10 +1,7 @@
-use Rattle.position.specs.Position.{pushed}
-use mathlib.Core.Path.{_≡_, sym, ap, _∙_}
 use Rattle.session.proofs.PlayLaws.{play-fine, play-refused, play-done}
-use Rattle.session.specs.Plays.{playTest}
-use Rattle.refusal.specs.declared.Verdict.the-variants.{Fine}
-use mathlib.Core.Path.{_≡_, sym, _∙_}
+use Rattle.position.specs.Position.{pushed}
 use native.Mathlib.Omega.{arith}
+use mathlib.Core.Path.{sym, ap, _∙_}
 use borrow.Author.Needs.{needs}
 use Rattle.session.proofs.plays.play_in.Statement.{statement}
 use Rattle.session.proofs.plays.play_in.Tie as tie
@@ -14,6 +11,9 @@ play-test-requires c κs = search needs
 
 enum-known-v : tie.Need-enum-known-v
 enum-known-v c = search needs
+
+refuse-requires : tie.Need-refuse-requires
+refuse-requires c κs = search needs
 
 enum-told : tie.Need-enum-told
 enum-told c = search needs
@@ -31,7 +31,7 @@ pushed-requires : tie.Need-pushed-requires
 pushed-requires c κs = let k = play-fine _ _ _ _ (sym (c .before .before .before .before .play-test .ensures) ∙ c .before .before .enum-told .given .1) in omega arith
 
 returns : tie.Need-returns
-returns c = play-refused _ _ _ _ _ _ (sym (c .before .before .before .play-test .ensures) ∙ c .before .v .given .1)
+returns c = play-refused _ _ _ _ _ _ _ (sym (c .before .before .before .before .play-test .ensures) ∙ c .before .before .v .given .1) (c .refuse .ensures)
 
 returns-2 : tie.Need-returns-2
 returns-2 c = play-done _ _ _ _ _ (sym (c .before .before .before .before .before .play-test .ensures) ∙ c .before .before .before .enum-told .given .1) (c .pushed .ensures ∙ ap (pushed _) (c .before .byte-of .ensures))
@@ -42,6 +42,7 @@ play-in-spec =
     (tie.spec
     play-test-requires
     enum-known-v
+    refuse-requires
     enum-told
     mul-byte-of
     element-copy-out-byte-of
