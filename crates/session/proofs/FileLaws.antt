@@ -1,19 +1,17 @@
 -- What a file's verdict makes of a call.
-use mathlib.Core.Path.{_≡_, refl, sym, ap, _∙_}
-use mathlib.Core.List.{List, [], _++_}
+use mathlib.Core.Path.{_≡_, sym, ap, _∙_}
+use mathlib.Core.List.{List}
 use Prim.Native.Nat.{ℕ, _≤_}
 use native.Mathlib.Omega.{arith}
-use lib.ListN.{getD, replicate}
+use lib.ListN.{getD}
 use Rattle.refusal.specs.declared.Verdict.the-variants.{Fine}
-use Rattle.refusal.specs.declared.Verdict.the-variants.{Refused as Not}
-use Rattle.refusal.specs.Told.{refusedAt}
 use Rattle.file_layout.specs.declared.Rules.{Rules}
 use Rattle.file_records.specs.Records.{verdictOf}
 use Rattle.problem_file.specs.Reading.{domainsOf}
 use Rattle.problem_file.proofs.Accepted.{Shows, accepted}
 use Rattle.tables.specs.FileProblem.{problemOf, domain-of}
 use Rattle.rules.specs.Alone.{Bytes}
-use Rattle.rules.proofs.ReadLaws.{read-refused, read-fine}
+use Rattle.rules.proofs.ReadLaws.{read-fine}
 use Rattle.position.specs.declared.Position.{Position}
 use Rattle.session.specs.declared.Played.{Played}
 use Rattle.session.specs.declared.Opened.{Opened}

@@ -1,8 +1,8 @@
 -- Calls one after another: the position shows the plays that stand, and the replies are those of the plain list.
-use mathlib.Core.Path.{_≡_, refl, sym, ap, ap₂, _∙_}
+use mathlib.Core.Path.{_≡_, refl, sym, ap, _∙_}
 use mathlib.Core.Bool.{Bool, true, false, cond, _&&_}
 use mathlib.Core.List.{List, [], _∷_, _++_}
-use Prim.Native.Nat.{ℕ, zero, suc, _≤_, _<_}
+use Prim.Native.Nat.{ℕ, _≤_}
 use native.Mathlib.Omega.{arith}
 use lib.Dec.{T, eqb, ltb}
 use lib.ListN.{getD, length, length-append}
@@ -10,9 +10,7 @@ use lib.Seq.{take-all}
 use borrow.Author.Tests.{ltb-true, lt-ltb, ne-eqb}
 use Rattle.mask.specs.Mask.{bit}
 use Rattle.mask.proofs.Logic.{holds}
-use Rattle.refusal.specs.declared.Verdict.{Verdict}
 use Rattle.refusal.specs.declared.Verdict.the-variants.{Fine}
-use Rattle.refusal.specs.declared.Verdict.the-variants.{Refused as Not}
 use Rattle.refusal.specs.Chain.{_then_, need}
 use Rattle.refusal.proofs.Chain.{need-ok}
 use Rattle.refusal.specs.Told.{replied, refused}
@@ -31,16 +29,16 @@ use Rattle.tables.specs.FileProblem.{problemOf}
 use Rattle.tables.proofs.FileLaws.{most}
 use Rattle.rules.specs.Alone.{Bytes}
 use Rattle.position.specs.declared.Position.{Position}
-use Rattle.position.specs.Position.{shown, playsOf, pushed, popped, fitsIn}
+use Rattle.position.specs.Position.{shown, playsOf, fitsIn}
 use Rattle.position.proofs.Fitting.{legal-fits}
 use Rattle.position.proofs.Shown.{plays-shown, pushed-shown, popped-shown, length-withoutLast}
 use Rattle.session.specs.declared.Played.{Played}
 use Rattle.session.specs.declared.Opened.{Opened}
-use Rattle.session.specs.declared.Answer.the-variants.{Done, Refused}
+use Rattle.session.specs.declared.Answer.the-variants.{Done}
 use Rattle.session.specs.Plays.{answerBy, positionBy, fitTest, playTest, takeBackTest, playIn, takeBackIn}
 use Rattle.session.specs.Opening.{spread, listBy, openIn}
 use Rattle.session.specs.Told.{toldWith, told, toldOpened, openTold, masksShown, countsShown}
-use Rattle.session.specs.History.{callTold, step, reachedFrom, reachedBy, stepIn, reachedIn, listTold}
+use Rattle.session.specs.History.{callTold, step, reachedFrom, reachedBy, stepIn, reachedIn, listTold, listOpened}
 use Rattle.session.proofs.FileLaws.{play-told, play-left, take-back-told, take-back-left, open-told, masks-shown, counts-shown, play-read, take-back-read}
 
 module _ (P : Problem) (small : P .n ≤ 32) where
@@ -171,8 +169,8 @@ module _ (f : List ℕ) (bytes : Bytes f) (fine : verdictOf f ≡ Fine) where
   reached-told cs c = ap (λ (q : Position). callTold f bytes q c) (reached-shows cs) ∙ call-told (standing P cs) c (standing-legal P cs)
 
   -- The open values shown at the position reached are those of the plays that stand, and so are their counts.
-  pub reached-opens : (cs : List Call) → openTold f bytes (reachedBy f bytes cs) ≡ replied (spread (openValues P (standing P cs)) ++ spread (openCounts P (standing P cs)))
-  unfolding toldOpened toldWith
+  pub reached-opens : (cs : List Call) → openTold f bytes (reachedBy f bytes cs) ≡ listOpened P (standing P cs)
+  unfolding toldOpened toldWith listOpened
   reached-opens cs =
       ap (openTold f bytes) (reached-shows cs)
       ∙ open-told f bytes (shown (standing P cs)) fine

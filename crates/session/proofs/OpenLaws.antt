@@ -2,13 +2,13 @@
 use mathlib.Core.Path.{_≡_, refl, sym, ap, ap₂, _∙_}
 use mathlib.Core.Bool.{Bool, true, false, cond, _&&_, and-true}
 use mathlib.Core.List.{List, [], _∷_, _++_}
-use Prim.Native.Nat.{ℕ, zero, suc, _+_, _^_, _%_, _≤_, _<_}
+use Prim.Native.Nat.{ℕ, zero, suc, _+_, _^_, _≤_, _<_}
 use native.Mathlib.Nat.{mod-eq-of-lt}
 use native.Mathlib.Numerals.{add-one}
 use native.Mathlib.Omega.{arith}
-use lib.Bits.{bitAnd, and-le-l}
+use lib.Bits.{and-le-l}
 use lib.Count.{ones}
-use lib.Dec.{T, eqb, ltb}
+use lib.Dec.{T, eqb}
 use lib.ListN.{getD, length, set, replicate}
 use borrow.Author.Tests.{lt-ltb, le-ltb}
 use Rattle.mask.specs.Range.{each, count}
@@ -16,9 +16,7 @@ use Rattle.mask.specs.Mask.{bit, maskOf}
 use Rattle.mask.proofs.Logic.{by-lt}
 use Rattle.mask.proofs.Bits.{bit-and, ones-count}
 use Rattle.mask.proofs.Masks.{maskOf-lt, maskOf-same, maskOf-bits}
-use Rattle.refusal.specs.declared.Verdict.{Verdict}
-use Rattle.refusal.specs.declared.Verdict.the-variants.{Fine}
-use Rattle.refusal.specs.declared.Verdict.the-variants.{Refused as Not}
+use Rattle.refusal.specs.declared.Verdict.the-variants.{Fine, Refused as Not}
 use Rattle.game.specs.Problem.{Problem}
 use Rattle.game.specs.Lists.{domains, listOf, masksOf}
 use Rattle.game.specs.Open.{isOpen, openValues, openCounts}
@@ -26,7 +24,7 @@ use Rattle.theory.proofs.Lists.{length-listOf, getD-listOf}
 use Rattle.theory.proofs.Standing.{open-count}
 use Rattle.forward_rule.proofs.StepLaws.{listOf-same}
 use Rattle.forward_rule.proofs.RuleLaws.{one-value}
-use Rattle.arrays.specs.Arrays.{rowIn, States}
+use Rattle.arrays.specs.Arrays.{rowIn}
 use Rattle.rules.specs.Inner.{Holds}
 use Rattle.position.specs.declared.Position.{Position}
 use Rattle.position.specs.Position.{shown, playsOf, pushed, fitsAt, fitsIn}

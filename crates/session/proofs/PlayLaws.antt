@@ -1,6 +1,6 @@
 -- Plays and take-backs: what their tests say, and the same over a file's domains and a problem's.
 use mathlib.Core.Path.{_≡_, sym, ap, _∙_}
-use mathlib.Core.Bool.{Bool, true, false, _&&_}
+use mathlib.Core.Bool.{Bool, true, _&&_}
 use mathlib.Core.List.{List}
 use Prim.Native.Nat.{ℕ, _≤_, _<_}
 use native.Mathlib.Omega.{arith}
@@ -13,8 +13,7 @@ use Rattle.mask.proofs.Logic.{same, holds, true-holds, clash, by-lt, and-in}
 use Rattle.mask.proofs.Bits.{bit-high}
 use Rattle.mask.proofs.Range.{each-in}
 use Rattle.refusal.specs.declared.Verdict.{Verdict}
-use Rattle.refusal.specs.declared.Verdict.the-variants.{Fine}
-use Rattle.refusal.specs.declared.Verdict.the-variants.{Refused as Not}
+use Rattle.refusal.specs.declared.Verdict.the-variants.{Fine, Refused as Not}
 use Rattle.refusal.specs.Chain.{_then_, need}
 use Rattle.refusal.proofs.Chain.{then-fine, need-fine}
 use Rattle.game.specs.Problem.{Problem}

@@ -1,17 +1,19 @@
 -- Calls one after another, each on the position that the last one left; and what the plain list of plays says of a call.
 use Prim.Native.Nat.{ℕ}
 use mathlib.Core.Bool.{cond}
-use mathlib.Core.List.{List, [], _∷_}
+use mathlib.Core.List.{List, [], _∷_, _++_}
 use lib.Dec.{eqb, ltb}
 use lib.ListN.{length}
 use Rattle.refusal.specs.Told.{Told, replied, refused}
 use Rattle.game.specs.Problem.{Problem}
 use Rattle.game.specs.Lists.{domains}
 use Rattle.game.specs.Calls.{Call, play, takeBack}
+use Rattle.game.specs.Open.{openValues, openCounts}
 use Rattle.rules.specs.Alone.{Bytes}
 use Rattle.position.specs.declared.Position.{Position}
 use Rattle.position.specs.Position.{shown}
 use Rattle.session.specs.Plays.{playIn, takeBackIn}
+use Rattle.session.specs.Opening.{spread}
 use Rattle.session.specs.Told.{playTold, playLeft, takeBackTold, takeBackLeft}
 
 module _ (f : List ℕ) (bytes : Bytes f) where
@@ -46,6 +48,10 @@ module _ (n : ℕ) (masks : List ℕ) where
 unfoldable pub listTold : Problem → List ℕ → Call → Told
 listTold P l (play a) = cond (ltb (length l) (P .n)) (cond (domains (P .domain) (length l) a) (replied []) (refused 10)) (refused 20)
 listTold P l takeBack = cond (eqb (length l) 0) (refused 21) (replied [])
+
+-- What open values tell by the plain list alone: those of a problem in which these plays stand, and their counts.
+unfoldable pub listOpened : Problem → List ℕ → Told
+listOpened P l = replied (spread (openValues P l) ++ spread (openCounts P l))
 
 -- A call in a byte: 255 is a take-back, any other number a play of that value.
 unfoldable pub callOf : ℕ → Call

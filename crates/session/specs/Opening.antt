@@ -9,8 +9,7 @@ use lib.ListN.{getD, length, replicate}
 use Rattle.mask.specs.Range.{count}
 use Rattle.mask.specs.Mask.{bit}
 use Rattle.refusal.specs.declared.Verdict.{Verdict}
-use Rattle.refusal.specs.declared.Verdict.the-variants.{Fine}
-use Rattle.refusal.specs.declared.Verdict.the-variants.{Refused as Not}
+use Rattle.refusal.specs.declared.Verdict.the-variants.{Fine, Refused as Not}
 use Rattle.game.specs.Problem.{Problem}
 use Rattle.game.specs.Lists.{listOf}
 use Rattle.game.specs.Open.{openValues, openCounts}

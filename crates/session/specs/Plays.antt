@@ -5,8 +5,7 @@ use lib.Dec.{ltb}
 use lib.ListN.{getD}
 use Rattle.mask.specs.Mask.{bit}
 use Rattle.refusal.specs.declared.Verdict.{Verdict}
-use Rattle.refusal.specs.declared.Verdict.the-variants.{Fine}
-use Rattle.refusal.specs.declared.Verdict.the-variants.{Refused as Not}
+use Rattle.refusal.specs.declared.Verdict.the-variants.{Fine, Refused as Not}
 use Rattle.refusal.specs.Chain.{_then_, need}
 use Rattle.position.specs.declared.Position.{Position}
 use Rattle.position.specs.Position.{pushed, popped, fitsIn}

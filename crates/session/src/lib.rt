@@ -1,5 +1,6 @@
 // The session's core by value: a play, a take-back and the open values of a position. Each call reads the file first, then
-// tests the position, then its argument. `play`, `take_back` and `open_values` are open to callers.
+// tests the position, then its argument. `play`, `take_back` and `open_values` are open to callers;
+// `open_in` and `replay_in` are for the replay, which reads the file once.
 ghost use mathlib.Core.Path.{_≡_};
 ghost use Rattle.rules.specs.Alone.{Bytes};
 ghost use Rattle.session.specs.Told.{told, toldOpened, playTold, playLeft, takeBackTold, takeBackLeft, openTold, masksShown, countsShown};
@@ -8,7 +9,7 @@ mod open;
 mod plays;
 mod replay;
 
-use open::open_in;
+pub use open::open_in;
 use plays::play_in;
 use plays::take_back_in;
 use position::Position;

@@ -1,10 +1,10 @@
-use Rattle.session.proofs.FileLaws.{open-read}
-use Rattle.session.specs.Told.{toldWith, toldOpened, openTold, masksShown, countsShown}
+use borrow.Author.Needs.{needs}
+use mathlib.Core.Path.{sym, ap, _∙_}
 use Rattle.rules.proofs.ReadLaws.{read-refused, holds-of, fits-of}
 use Rattle.problem_file.proofs.Accepted.{header-shows, header-refuses}
 use Rattle.problem_file.specs.Reading.{told as toldHeader}
-use mathlib.Core.Path.{sym, ap, _∙_}
-use borrow.Author.Needs.{needs}
+use Rattle.session.proofs.FileLaws.{open-read}
+use Rattle.session.specs.Told.{toldWith, toldOpened, openTold, masksShown, countsShown}
 use Rattle.session.proofs.open_values.Statement.{statement}
 use Rattle.session.proofs.open_values.Tie as tie
 

@@ -1,10 +1,10 @@
-use Rattle.session.proofs.FileLaws.{read-most, play-read}
-use Rattle.session.specs.Told.{toldWith, told, playTold, playLeft}
+use borrow.Author.Needs.{needs}
+use mathlib.Core.Path.{sym, ap, _∙_}
 use Rattle.rules.proofs.ReadLaws.{read-refused}
 use Rattle.problem_file.proofs.Accepted.{header-shows, header-refuses}
 use Rattle.problem_file.specs.Reading.{told as toldHeader}
-use mathlib.Core.Path.{sym, ap, _∙_}
-use borrow.Author.Needs.{needs}
+use Rattle.session.proofs.FileLaws.{read-most, play-read}
+use Rattle.session.specs.Told.{toldWith, told, playTold, playLeft}
 use Rattle.session.proofs.play.Statement.{statement}
 use Rattle.session.proofs.play.Tie as tie
 

@@ -1,10 +1,10 @@
-use Rattle.session.proofs.FileLaws.{read-most, take-back-read}
-use Rattle.session.specs.Told.{toldWith, told, takeBackTold, takeBackLeft}
+use borrow.Author.Needs.{needs}
+use mathlib.Core.Path.{sym, ap, _∙_}
 use Rattle.rules.proofs.ReadLaws.{read-refused}
 use Rattle.problem_file.proofs.Accepted.{header-shows, header-refuses}
 use Rattle.problem_file.specs.Reading.{told as toldHeader}
-use mathlib.Core.Path.{sym, ap, _∙_}
-use borrow.Author.Needs.{needs}
+use Rattle.session.proofs.FileLaws.{read-most, take-back-read}
+use Rattle.session.specs.Told.{toldWith, told, takeBackTold, takeBackLeft}
 use Rattle.session.proofs.take_back.Statement.{statement}
 use Rattle.session.proofs.take_back.Tie as tie
 

@@ -1,5 +1,5 @@
-use borrow.Author.Needs.{needs}
 use Prim.Native.Nat.{_≤_, _-_}
+use borrow.Author.Needs.{needs}
 use Rattle.trial_calls.proofs.all_cases.Statement.{statement}
 use Rattle.trial_calls.proofs.all_cases.Tie as tie
 

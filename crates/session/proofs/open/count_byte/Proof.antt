@@ -1,8 +1,7 @@
-use Rattle.mask.specs.Range.{count}
+use borrow.Author.Needs.{needs}
+use native.Mathlib.Omega.{arith}
 use Rattle.mask.specs.Mask.{bit}
 use Rattle.mask.proofs.Range.{count-bound}
-use native.Mathlib.Omega.{arith}
-use borrow.Author.Needs.{needs}
 use Rattle.session.proofs.open.count_byte.Statement.{statement}
 use Rattle.session.proofs.open.count_byte.Tie as tie
 

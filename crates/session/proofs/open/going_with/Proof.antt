@@ -1,9 +1,9 @@
-use Rattle.session.specs.Opening.{goingWith}
-use mathlib.Core.Path.{_≡_, refl, ap, _∙_}
-use Prim.Native.Nat.{_-_, _≤_, _<_}
+use Prim.Native.Nat.{_-_, _≤_}
 use borrow.Author.Needs.{needs}
+use mathlib.Core.Path.{_≡_, refl}
 use native.Mathlib.Numerals.{add-one}
 use native.Mathlib.Omega.{arith}
+use Rattle.session.specs.Opening.{goingWith}
 use Rattle.session.proofs.open.going_with.Statement.{statement}
 use Rattle.session.proofs.open.going_with.Tie as tie
 

@@ -1,10 +1,10 @@
-use Rattle.session.proofs.OpenLaws.{masks-next, counts-next}
-use Rattle.session.specs.Opening.{spread, openMasks, maskCounts}
-use Rattle.game.specs.Lists.{listOf}
-use native.Mathlib.Omega.{arith}
-use mathlib.Core.Path.{_≡_, refl}
 use Prim.Native.Nat.{_-_, _≤_, _<_}
 use borrow.Author.Needs.{needs}
+use mathlib.Core.Path.{_≡_, refl}
+use native.Mathlib.Omega.{arith}
+use Rattle.game.specs.Lists.{listOf}
+use Rattle.session.proofs.OpenLaws.{masks-next, counts-next}
+use Rattle.session.specs.Opening.{spread, openMasks, maskCounts}
 use Rattle.session.proofs.open.open_all.Statement.{statement}
 use Rattle.session.proofs.open.open_all.Tie as tie
 

@@ -1,10 +1,9 @@
+use borrow.Author.Needs.{needs}
+use mathlib.Core.Path.{sym, _∙_}
+use native.Mathlib.Omega.{arith}
+use Rattle.position.proofs.Fitting.{fits-plays}
 use Rattle.session.proofs.OpenLaws.{open-refused, open-done}
 use Rattle.session.proofs.PlayLaws.{fit-fine}
-use Rattle.position.proofs.Fitting.{fits-plays}
-use lib.ListN.{length}
-use native.Mathlib.Omega.{arith}
-use mathlib.Core.Path.{_≡_, sym, _∙_}
-use borrow.Author.Needs.{needs}
 use Rattle.session.proofs.open.open_in.Statement.{statement}
 use Rattle.session.proofs.open.open_in.Tie as tie
 

@@ -1,7 +1,7 @@
-use Rattle.session.proofs.OpenLaws.{open-played, open-universal, open-existential}
 use Prim.Native.Nat.{_^_}
-use mathlib.Core.Path.{sym, ap, _∙_}
 use borrow.Author.Needs.{needs}
+use mathlib.Core.Path.{sym, ap, _∙_}
+use Rattle.session.proofs.OpenLaws.{open-played, open-universal, open-existential}
 use Rattle.session.proofs.open.open_mask.Statement.{statement}
 use Rattle.session.proofs.open.open_mask.Tie as tie
 

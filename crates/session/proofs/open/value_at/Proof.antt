@@ -1,5 +1,5 @@
-use Rattle.session.specs.Opening.{valueAt}
 use borrow.Author.Needs.{needs}
+use Rattle.session.specs.Opening.{valueAt}
 use Rattle.session.proofs.open.value_at.Statement.{statement}
 use Rattle.session.proofs.open.value_at.Tie as tie
 

@@ -1,6 +1,6 @@
-use Rattle.session.proofs.PlayLaws.{value-small}
-use native.Mathlib.Omega.{arith}
 use borrow.Author.Needs.{needs}
+use native.Mathlib.Omega.{arith}
+use Rattle.session.proofs.PlayLaws.{value-small}
 use Rattle.session.proofs.plays.byte_of.Statement.{statement}
 use Rattle.session.proofs.plays.byte_of.Tie as tie
 

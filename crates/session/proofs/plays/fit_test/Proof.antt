@@ -1,8 +1,5 @@
-use Rattle.session.specs.Plays.{fitTest}
-use Rattle.refusal.specs.Chain.{need}
-use mathlib.Core.Path.{ap, _∙_}
-use mathlib.Core.Bool.{Bool}
 use borrow.Author.Needs.{needs}
+use Rattle.session.specs.Plays.{fitTest}
 use Rattle.session.proofs.plays.fit_test.Statement.{statement}
 use Rattle.session.proofs.plays.fit_test.Tie as tie
 

@@ -1,6 +1,6 @@
-use Rattle.mask.proofs.Bits.{bit-high}
-use mathlib.Core.Path.{sym}
 use borrow.Author.Needs.{needs}
+use mathlib.Core.Path.{sym}
+use Rattle.mask.proofs.Bits.{bit-high}
 use Rattle.session.proofs.plays.holds.Statement.{statement}
 use Rattle.session.proofs.plays.holds.Tie as tie
 

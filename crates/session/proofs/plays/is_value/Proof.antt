@@ -1,5 +1,5 @@
-use borrow.Author.Tests.{lt-ltb, le-ltb}
 use borrow.Author.Needs.{needs}
+use borrow.Author.Tests.{lt-ltb, le-ltb}
 use Rattle.session.proofs.plays.is_value.Statement.{statement}
 use Rattle.session.proofs.plays.is_value.Tie as tie
 

@@ -1,8 +1,8 @@
-use Rattle.session.proofs.PlayLaws.{play-fine, play-refused, play-done}
-use Rattle.position.specs.Position.{pushed}
-use native.Mathlib.Omega.{arith}
-use mathlib.Core.Path.{sym, ap, _∙_}
 use borrow.Author.Needs.{needs}
+use mathlib.Core.Path.{sym, ap, _∙_}
+use native.Mathlib.Omega.{arith}
+use Rattle.position.specs.Position.{pushed}
+use Rattle.session.proofs.PlayLaws.{play-fine, play-refused, play-done}
 use Rattle.session.proofs.plays.play_in.Statement.{statement}
 use Rattle.session.proofs.plays.play_in.Tie as tie
 

@@ -1,9 +1,5 @@
-use Rattle.session.proofs.PlayLaws.{play-tested}
-use Rattle.session.specs.Plays.{playTest}
-use Rattle.refusal.specs.Chain.{_then_, need}
-use mathlib.Core.Path.{ap, ap₂, _∙_}
-use mathlib.Core.Bool.{Bool}
 use borrow.Author.Needs.{needs}
+use Rattle.session.proofs.PlayLaws.{play-tested}
 use Rattle.session.proofs.plays.play_test.Statement.{statement}
 use Rattle.session.proofs.plays.play_test.Tie as tie
 

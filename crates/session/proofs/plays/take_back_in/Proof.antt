@@ -1,7 +1,7 @@
-use Rattle.session.proofs.PlayLaws.{take-back-fine, take-back-refused, take-back-done}
-use native.Mathlib.Omega.{arith}
-use mathlib.Core.Path.{sym, _∙_}
 use borrow.Author.Needs.{needs}
+use mathlib.Core.Path.{sym, _∙_}
+use native.Mathlib.Omega.{arith}
+use Rattle.session.proofs.PlayLaws.{take-back-fine, take-back-refused, take-back-done}
 use Rattle.session.proofs.plays.take_back_in.Statement.{statement}
 use Rattle.session.proofs.plays.take_back_in.Tie as tie
 

@@ -1,7 +1,5 @@
-use Rattle.session.specs.Plays.{takeBackTest}
-use Rattle.refusal.specs.Chain.{_then_}
-use mathlib.Core.Path.{ap₂, _∙_}
 use borrow.Author.Needs.{needs}
+use Rattle.session.specs.Plays.{takeBackTest}
 use Rattle.session.proofs.plays.take_back_test.Statement.{statement}
 use Rattle.session.proofs.plays.take_back_test.Tie as tie
 

@@ -1,6 +1,5 @@
-use Rattle.session.proofs.ReplayLaws.{by-take-back, by-play}
-use mathlib.Core.Path.{_≡_, sym, ap, _∙_}
 use borrow.Author.Needs.{needs}
+use Rattle.session.proofs.ReplayLaws.{by-take-back, by-play}
 use Rattle.session.proofs.replay.call_in.Statement.{statement}
 use Rattle.session.proofs.replay.call_in.Tie as tie
 

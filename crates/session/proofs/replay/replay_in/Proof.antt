@@ -1,12 +1,11 @@
+use Prim.Native.Nat.{_-_, _≤_}
+use borrow.Author.Needs.{needs}
+use lib.ListN.{length}
+use mathlib.Core.List.{[]}
+use mathlib.Core.Path.{_≡_, _∙_}
+use Rattle.position.specs.Position.{shown}
 use Rattle.session.proofs.ReplayLaws.{rest, rest-next, rest-end}
 use Rattle.session.specs.History.{reachedIn, callsOf}
-use Rattle.position.specs.Position.{shown}
-use native.Mathlib.Omega.{arith}
-use mathlib.Core.Path.{_≡_, refl, _∙_}
-use mathlib.Core.List.{[]}
-use lib.ListN.{length}
-use Prim.Native.Nat.{_-_, _≤_, _<_}
-use borrow.Author.Needs.{needs}
 use Rattle.session.proofs.replay.replay_in.Statement.{statement}
 use Rattle.session.proofs.replay.replay_in.Tie as tie
 
