@@ -46,7 +46,7 @@ module _ (P : Problem) (small : P .n ≤ 32) where
   pub legal-fit : (l : List ℕ) → T (legal P l) → T (fitsIn (shown l) (P .n) (P .domain))
   legal-fit l t = legal-fits P (P .n) (P .domain) l refl (sym (take-all (P .n) (P .domain) (omega (arith, P .sized)))) t
 
-  fit-is : (l : List ℕ) → T (legal P l) → fitTest (P .n) (P .domain) (shown l) ≡ Fine
+  pub fit-is : (l : List ℕ) → T (legal P l) → fitTest (P .n) (P .domain) (shown l) ≡ Fine
   unfolding fitTest
   fit-is l t = need-ok (fitsIn (shown l) (P .n) (P .domain)) 23 0 (holds (legal-fit l t))
 

@@ -10,3 +10,5 @@ pub mod FileLaws
 pub mod ReplayLaws
 -- Calls one after another: the position shows the plays that stand, and the replies are those of the plain list.
 pub mod HistoryLaws
+-- Calls on one small problem, computed.
+pub mod Samples
