@@ -25,7 +25,7 @@ pushed-shown l a h =
     ap₂ (λ (k : ℕ) (v : List ℕ). record { plays = k; values = v }) (sym (length-append l (a ∷ [])))
     (rw (e, length-append l (a ∷ [])) (set-append-seam l 0 _ a ∙ sym (append-snoc l a _)))
 
-length-withoutLast : (x : ℕ) (l : List ℕ) → length (withoutLast (x ∷ l)) ≡ length l
+pub length-withoutLast : (x : ℕ) (l : List ℕ) → length (withoutLast (x ∷ l)) ≡ length l
 unfolding withoutLast
 length-withoutLast x [] = refl
 length-withoutLast x (y ∷ l) = ap suc (length-withoutLast y l)

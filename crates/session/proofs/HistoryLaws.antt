@@ -1,0 +1,189 @@
+-- Calls one after another: the position shows the plays that stand, and the replies are those of the plain list.
+use mathlib.Core.Path.{_≡_, refl, sym, ap, _∙_}
+use mathlib.Core.Bool.{Bool, true, false, cond, _&&_}
+use mathlib.Core.List.{List, [], _∷_, _++_}
+use Prim.Native.Nat.{ℕ, _≤_}
+use native.Mathlib.Omega.{arith}
+use lib.Dec.{T, eqb, ltb}
+use lib.ListN.{getD, length, length-append}
+use lib.Seq.{take-all}
+use borrow.Author.Tests.{ltb-true, lt-ltb, ne-eqb}
+use Rattle.mask.specs.Mask.{bit}
+use Rattle.mask.proofs.Logic.{holds}
+use Rattle.refusal.specs.declared.Verdict.the-variants.{Fine}
+use Rattle.refusal.specs.Chain.{_then_, need}
+use Rattle.refusal.proofs.Chain.{need-ok}
+use Rattle.refusal.specs.Told.{replied, refused}
+use Rattle.file_layout.specs.declared.Rules.{Rules}
+use Rattle.file_records.specs.Records.{verdictOf}
+use Rattle.problem_file.specs.Reading.{domainsOf}
+use Rattle.problem_file.proofs.Accepted.{Shows}
+use Rattle.game.specs.Problem.{Problem}
+use Rattle.game.specs.Lists.{domains}
+use Rattle.game.specs.Position.{legal}
+use Rattle.game.specs.Calls.{Call, play, takeBack, withoutLast, afterCall, standingFrom, standing}
+use Rattle.game.specs.Open.{openValues, openCounts}
+use Rattle.theory.proofs.TurnLists.{legal-out}
+use Rattle.theory.proofs.Standing.{legal-after, standing-legal}
+use Rattle.tables.specs.FileProblem.{problemOf}
+use Rattle.tables.proofs.FileLaws.{most}
+use Rattle.rules.specs.Alone.{Bytes}
+use Rattle.position.specs.declared.Position.{Position}
+use Rattle.position.specs.Position.{shown, playsOf, fitsIn}
+use Rattle.position.proofs.Fitting.{legal-fits}
+use Rattle.position.proofs.Shown.{plays-shown, pushed-shown, popped-shown, length-withoutLast}
+use Rattle.session.specs.declared.Played.{Played}
+use Rattle.session.specs.declared.Opened.{Opened}
+use Rattle.session.specs.declared.Answer.the-variants.{Done}
+use Rattle.session.specs.Plays.{answerBy, positionBy, fitTest, playTest, takeBackTest, playIn, takeBackIn}
+use Rattle.session.specs.Opening.{spread, listBy, openIn}
+use Rattle.session.specs.Told.{toldWith, told, toldOpened, openTold, masksShown, countsShown}
+use Rattle.session.specs.History.{callTold, step, reachedFrom, reachedBy, stepIn, reachedIn, listTold, listOpened}
+use Rattle.session.proofs.FileLaws.{play-told, play-left, take-back-told, take-back-left, open-told, masks-shown, counts-shown, play-read, take-back-read}
+
+module _ (P : Problem) (small : P .n ≤ 32) where
+  -- A position that shows legal plays fits.
+  pub legal-fit : (l : List ℕ) → T (legal P l) → T (fitsIn (shown l) (P .n) (P .domain))
+  legal-fit l t = legal-fits P (P .n) (P .domain) l refl (sym (take-all (P .n) (P .domain) (omega (arith, P .sized)))) t
+
+  pub fit-is : (l : List ℕ) → T (legal P l) → fitTest (P .n) (P .domain) (shown l) ≡ Fine
+  unfolding fitTest
+  fit-is l t = need-ok (fitsIn (shown l) (P .n) (P .domain)) 23 0 (holds (legal-fit l t))
+
+  -- What one call does to a position that shows l.
+  record Step (l : List ℕ) (r : Played) (c : Call) : Type 0 where
+    tells : told (r .answer) ≡ listTold P l c
+    leads : r .position ≡ shown (afterCall P l c)
+
+  -- A play, by whether a variable is left and whether its domain holds the value.
+  play-by : (l : List ℕ) (a : ℕ) → T (legal P l) → (b d : Bool) → ltb (length l) (P .n) ≡ b → bit (getD (P .domain) (length l) 0) a ≡ d
+      → Step l (playIn (P .n) (P .domain) (shown l) a) (play a)
+  unfolding playIn playTest answerBy positionBy need _then_ toldWith told listTold afterCall domains shown
+  play-by l a t false d e f = record { tells = rw (fit-is l t, e); leads = rw (fit-is l t, e) }
+  play-by l a t true false e f = record { tells = rw (fit-is l t, e, f); leads = rw (fit-is l t, e, f) }
+  play-by l a t true true e f =
+      let k = ltb-true (length l) (P .n) e in
+      record { tells = rw (fit-is l t, e, f); leads = rw (fit-is l t, e, f) (pushed-shown l a (omega arith)) }
+
+  -- A take-back, with none played and with some.
+  take-back-by : (l : List ℕ) → T (legal P l) → Step l (takeBackIn (P .n) (P .domain) (shown l)) takeBack
+  unfolding takeBackIn takeBackTest answerBy positionBy need _then_ toldWith told listTold afterCall withoutLast shown
+  take-back-by [] t = record { tells = rw (fit-is [] t); leads = rw (fit-is [] t) }
+  take-back-by (x ∷ l) t =
+      let k = legal-out P (x ∷ l) t .0 in
+      let some : ltb 0 (length (x ∷ l)) ≡ true = lt-ltb 0 (length (x ∷ l)) (omega arith) in
+      let none : eqb (length (x ∷ l)) 0 ≡ false = ne-eqb (length (x ∷ l)) 0 (λ e. absurd (omega arith)) in
+      record { tells = rw (fit-is (x ∷ l) t, some, none); leads = rw (fit-is (x ∷ l) t, some) (popped-shown (x ∷ l) (omega arith) (omega arith)) }
+
+  -- The open values of a position that shows l.
+  open-by : (l : List ℕ) → T (legal P l) → openIn P (shown l) ≡ record { answer = Done; masks = spread (openValues P l); counts = spread (openCounts P l) }
+  unfolding openIn answerBy listBy
+  open-by l t = rw (fit-is l t, plays-shown l)
+
+-- ---- what the plain list says
+
+not-refused : {X : Type 0} (e : ℕ) (l : List ℕ) → replied l ≡ refused e → X
+not-refused e l q = let z : _≡_ {A = ℕ} 0 1 = cc in absurd (omega arith)
+
+-- A call that is refused leaves the list as it is.
+pub told-stays : (P : Problem) (l : List ℕ) (c : Call) (e : ℕ) → listTold P l c ≡ refused e → afterCall P l c ≡ l
+unfolding listTold afterCall withoutLast
+told-stays P l (play a) e q = by (ltb (length l) (P .n)) (domains (P .domain) (length l) a) q
+  where
+    by : (b d : Bool) → cond b (cond d (replied []) (refused 10)) (refused 20) ≡ refused e → cond (b && d) (l ++ (a ∷ [])) l ≡ l
+    by false d r = refl
+    by true false r = refl
+    by true true r = not-refused e [] r
+told-stays P [] takeBack e q = refl
+told-stays P (x ∷ l) takeBack e q = not-refused e [] (rw (ne-eqb (length (x ∷ l)) 0 (λ z. absurd (omega arith))) at q)
+
+-- A call that is done changes it.
+pub told-moves : (P : Problem) (l : List ℕ) (c : Call) → listTold P l c ≡ replied [] → ¬ (afterCall P l c ≡ l)
+unfolding listTold afterCall
+told-moves P l (play a) q = by (ltb (length l) (P .n)) (domains (P .domain) (length l) a) q
+  where
+    by : (b d : Bool) → cond b (cond d (replied []) (refused 10)) (refused 20) ≡ replied [] → ¬ (cond (b && d) (l ++ (a ∷ [])) l ≡ l)
+    by false d r = not-refused 20 [] (sym r)
+    by true false r = not-refused 10 [] (sym r)
+    by true true r = λ z. omega (arith, ap length z, length-append l (a ∷ []))
+told-moves P [] takeBack q = not-refused 21 [] (sym q)
+told-moves P (x ∷ l) takeBack q = λ z. omega (arith, ap length z, length-withoutLast x l)
+
+-- ---- over a file
+
+module _ (f : List ℕ) (bytes : Bytes f) (fine : verdictOf f ≡ Fine) where
+  -- The problem of the file.
+  abbrev P : Problem
+  P = problemOf f bytes fine
+
+  few : P .n ≤ 32
+  unfolding problemOf
+  few = most f fine
+
+  -- One call on a position that shows legal plays: what it tells is what the plain list says, and it shows the plays that then stand.
+  call-told : (l : List ℕ) (c : Call) → T (legal P l) → callTold f bytes (shown l) c ≡ listTold P l c
+  unfolding callTold
+  call-told l (play a) t = play-told f bytes (shown l) fine a ∙ play-by P few l a t _ _ refl refl .tells
+  call-told l takeBack t = take-back-told f bytes (shown l) fine ∙ take-back-by P few l t .tells
+
+  call-leads : (l : List ℕ) (c : Call) → T (legal P l) → step f bytes (shown l) c ≡ shown (afterCall P l c)
+  unfolding step
+  call-leads l (play a) t = play-left f bytes (shown l) fine a ∙ play-by P few l a t _ _ refl refl .leads
+  call-leads l takeBack t = take-back-left f bytes (shown l) fine ∙ take-back-by P few l t .leads
+
+  calls-lead : (l : List ℕ) (cs : List Call) → T (legal P l) → reachedFrom f bytes (shown l) cs ≡ shown (standingFrom P l cs)
+  unfolding reachedFrom standingFrom
+  calls-lead l [] t = refl
+  calls-lead l (c ∷ cs) t = ap (λ (q : Position). reachedFrom f bytes q cs) (call-leads l c t) ∙ calls-lead (afterCall P l c) cs (legal-after P l c t)
+
+  -- After any list of calls, refused ones among them, the position shows exactly the plays that stand.
+  pub reached-shows : (cs : List Call) → reachedBy f bytes cs ≡ shown (standing P cs)
+  unfolding reachedBy standing standingFrom
+  reached-shows cs = calls-lead [] cs (standing-legal P [])
+
+  -- The same position is reached over the reading's n and domains.
+  module _ (D : List ℕ) (n m : ℕ) (rules : Rules) (u : ℕ) (s : Shows f n m rules u) (d : D ≡ domainsOf f) where
+    step-read : (p : Position) (c : Call) → stepIn n D p c ≡ step f bytes p c
+    unfolding stepIn step
+    step-read p (play a) = play-read f bytes p D n m rules u s d a (playIn n D p a) refl .1
+    step-read p takeBack = take-back-read f bytes p D n m rules u s d (takeBackIn n D p) refl .1
+
+    from-read : (p : Position) (cs : List Call) → reachedIn n D p cs ≡ reachedFrom f bytes p cs
+    unfolding reachedIn reachedFrom
+    from-read p [] = refl
+    from-read p (c ∷ cs) = ap (λ (q : Position). reachedIn n D q cs) (step-read p c) ∙ from-read (step f bytes p c) cs
+
+    pub reached-read : (cs : List Call) → reachedIn n D (shown []) cs ≡ reachedBy f bytes cs
+    unfolding reachedBy
+    reached-read cs = from-read (shown []) cs
+
+  -- It fits, and its plays are those.
+  pub reached-fits : (cs : List Call) → T (fitsIn (reachedBy f bytes cs) (P .n) (P .domain))
+  reached-fits cs = rw (reached-shows cs) (legal-fit P few (standing P cs) (standing-legal P cs))
+
+  pub reached-plays : (cs : List Call) → playsOf (reachedBy f bytes cs) ≡ standing P cs
+  reached-plays cs = ap playsOf (reached-shows cs) ∙ plays-shown (standing P cs)
+
+  -- The next call tells what the plain list says: 20, 21 or 10 where the list stays as it is, else done.
+  pub reached-told : (cs : List Call) (c : Call) → callTold f bytes (reachedBy f bytes cs) c ≡ listTold P (standing P cs) c
+  reached-told cs c = ap (λ (q : Position). callTold f bytes q c) (reached-shows cs) ∙ call-told (standing P cs) c (standing-legal P cs)
+
+  -- The open values shown at the position reached are those of the plays that stand, and so are their counts.
+  pub reached-opens : (cs : List Call) → openTold f bytes (reachedBy f bytes cs) ≡ listOpened P (standing P cs)
+  unfolding toldOpened toldWith listOpened
+  reached-opens cs =
+      ap (openTold f bytes) (reached-shows cs)
+      ∙ open-told f bytes (shown (standing P cs)) fine
+      ∙ ap toldOpened (open-by P few (standing P cs) (standing-legal P cs))
+
+  pub reached-masks : (cs : List Call) → masksShown f bytes (reachedBy f bytes cs) ≡ spread (openValues P (standing P cs))
+  reached-masks cs =
+      ap (masksShown f bytes) (reached-shows cs)
+      ∙ masks-shown f bytes (shown (standing P cs)) fine
+      ∙ ap (λ (o : Opened). o .masks) (open-by P few (standing P cs) (standing-legal P cs))
+
+  pub reached-counts : (cs : List Call) → countsShown f bytes (reachedBy f bytes cs) ≡ spread (openCounts P (standing P cs))
+  reached-counts cs =
+      ap (countsShown f bytes) (reached-shows cs)
+      ∙ counts-shown f bytes (shown (standing P cs)) fine
+      ∙ ap (λ (o : Opened). o .counts) (open-by P few (standing P cs) (standing-legal P cs))

@@ -1,0 +1,59 @@
+-- Calls on G1 of document 01, computed from the definitions: rows of G9 and G10, and values that are no options at any width.
+use mathlib.Core.Path.{_≡_, refl}
+use mathlib.Core.List.{List, [], _∷_}
+use Prim.Native.Nat.{ℕ}
+use Rattle.mask.specs.Range.{each, count}
+use Rattle.mask.specs.Mask.{bit, maskOf}
+use Rattle.refusal.specs.Chain.{_then_, need}
+use Rattle.game.specs.Lists.{domains, listOf, masksOf}
+use Rattle.game.specs.Open.{isOpen, openValues, openCounts}
+use Rattle.theory.proofs.Samples.{G1}
+use Rattle.position.specs.Position.{shown, playsOf, pushed, popped, placeFits, fitsAt, fitsIn}
+use Rattle.session.specs.declared.Played.{Played}
+use Rattle.session.specs.declared.Opened.{Opened}
+use Rattle.session.specs.declared.Answer.the-variants.{Done, Refused}
+use Rattle.session.specs.Plays.{answerBy, positionBy, fitTest, playTest, takeBackTest, playIn, takeBackIn}
+use Rattle.session.specs.Opening.{spread, listBy, openIn}
+use Rattle.session.specs.History.{stepIn, reachedIn, callOf, callsOf}
+
+abbrev played : List ℕ → ℕ → Played
+played l a = playIn (G1 .n) (G1 .domain) (shown l) a
+
+abbrev takenBack : List ℕ → Played
+takenBack l = takeBackIn (G1 .n) (G1 .domain) (shown l)
+
+abbrev done : List ℕ → Played
+done l = record { answer = Done; position = shown l }
+
+abbrev refused : ℕ → List ℕ → Played
+refused e l = record { answer = Refused e; position = shown l }
+
+-- G10 and plays around it: a value of 2, of 16, and one that is 0 when cut to a byte give 10; a full position gives 20 first.
+plays : (played [] 0 ≡ done (0 ∷ [])) × (played (0 ∷ []) 0 ≡ done (0 ∷ 0 ∷ [])) × (played [] 2 ≡ refused 10 []) × (played [] 16 ≡ refused 10 [])
+    × (played [] 256 ≡ refused 10 []) × (played (0 ∷ 0 ∷ []) 2 ≡ refused 20 (0 ∷ 0 ∷ []))
+unfolding each bit need _then_ shown pushed placeFits fitsAt fitsIn answerBy positionBy fitTest playTest playIn
+plays = (refl, refl, refl, refl, refl, refl)
+
+-- A take-back, and one of a fresh position.
+backs : (takenBack (0 ∷ 1 ∷ []) ≡ done (0 ∷ [])) × (takenBack (0 ∷ []) ≡ done []) × (takenBack [] ≡ refused 21 [])
+unfolding each bit need _then_ shown popped placeFits fitsAt fitsIn answerBy positionBy fitTest takeBackTest takeBackIn
+backs = (refl, refl, refl)
+
+-- A misfit gives 23 before anything else, and is returned as it is.
+misfit : (played (5 ∷ []) 9 ≡ refused 23 (5 ∷ [])) × (takenBack (0 ∷ 1 ∷ 0 ∷ []) ≡ refused 23 (0 ∷ 1 ∷ 0 ∷ []))
+unfolding each bit need _then_ shown placeFits fitsAt fitsIn answerBy positionBy fitTest playTest takeBackTest playIn takeBackIn
+misfit = (refl, refl)
+
+-- G9: after 0 the open values of variable 1 are {1}; the same shown of a fresh position, and of plays that clash.
+abbrev opened : List ℕ → List ℕ → Opened
+opened masks counts = record { answer = Done; masks = spread masks; counts = spread counts }
+
+opens : (openIn G1 (shown (0 ∷ [])) ≡ opened (1 ∷ 2 ∷ []) (1 ∷ 1 ∷ [])) × (openIn G1 (shown []) ≡ opened (3 ∷ 3 ∷ []) (2 ∷ 2 ∷ []))
+    × (openIn G1 (shown (0 ∷ 0 ∷ [])) ≡ opened (1 ∷ 1 ∷ []) (1 ∷ 1 ∷ []))
+unfolding each count bit maskOf need domains listOf masksOf isOpen openValues openCounts shown playsOf placeFits fitsAt fitsIn answerBy fitTest spread listBy openIn
+opens = (refl, refl, refl)
+
+-- A replay: 7 is refused, a take-back is, 1 stands, 9 is refused, 1 stands, 0 is refused, the last is taken back, 0 stands.
+replayed : reachedIn (G1 .n) (G1 .domain) (shown []) (callsOf (7 ∷ 255 ∷ 1 ∷ 9 ∷ 1 ∷ 0 ∷ 255 ∷ 0 ∷ [])) ≡ shown (1 ∷ 0 ∷ [])
+unfolding each bit need _then_ shown pushed popped placeFits fitsAt fitsIn answerBy positionBy fitTest playTest takeBackTest playIn takeBackIn stepIn reachedIn callOf callsOf
+replayed = refl

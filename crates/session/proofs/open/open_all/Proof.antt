@@ -1,0 +1,72 @@
+use Prim.Native.Nat.{_-_, _≤_, _<_}
+use borrow.Author.Needs.{needs}
+use mathlib.Core.Path.{_≡_, refl}
+use native.Mathlib.Omega.{arith}
+use Rattle.game.specs.Lists.{listOf}
+use Rattle.session.proofs.OpenLaws.{masks-next, counts-next}
+use Rattle.session.specs.Opening.{spread, openMasks, maskCounts}
+use Rattle.session.proofs.open.open_all.Statement.{statement}
+use Rattle.session.proofs.open.open_all.Tie as tie
+
+abbrev Inv-loop : tie.InvT-loop
+Inv-loop index rows n universal domains values k masks₀ counts₀ j₀ masks counts j =
+    (j ≤ n) × (masks ≡ spread (openMasks index rows values universal domains k j)) × (counts ≡ spread (maskCounts index rows values universal domains k j))
+
+abbrev μ-loop : tie.MeasureT-loop
+μ-loop index rows n universal domains values k masks₀ counts₀ j₀ masks counts j = n - j
+
+loop-holds : tie.Need-loop-holds Inv-loop μ-loop
+unfolding spread openMasks maskCounts listOf
+loop-holds c = (search needs, refl, refl)
+
+mul-open-mask : tie.Need-mul-open-mask Inv-loop μ-loop
+mul-open-mask c = search needs
+
+element-copy-out-open-mask : tie.Need-element-copy-out-open-mask Inv-loop μ-loop
+element-copy-out-open-mask c = search needs
+
+open-mask-requires : tie.Need-open-mask-requires Inv-loop μ-loop
+open-mask-requires c κs = search needs
+
+mul-masks : tie.Need-mul-masks Inv-loop μ-loop
+mul-masks c = search needs
+
+array-write-masks : tie.Need-array-write-masks Inv-loop μ-loop
+array-write-masks c = search needs
+
+count-byte-requires : tie.Need-count-byte-requires Inv-loop μ-loop
+count-byte-requires c κs = search needs
+
+array-write-counts : tie.Need-array-write-counts Inv-loop μ-loop
+array-write-counts c = search needs
+
+add-j : tie.Need-add-j Inv-loop μ-loop
+add-j c = search needs
+
+loop-less : tie.Need-loop-less Inv-loop μ-loop
+loop-less c = search needs
+
+loop-again : tie.Need-loop-again Inv-loop μ-loop
+loop-again c = let b : c .before .before .before .before .loop .j < 32 = search needs in (search needs, masks-next _ _ _ _ _ _ _ _ _ b (c .before .before .before .before .loop .inv .1) (c .before .open-mask .ensures), counts-next _ _ _ _ _ _ _ _ _ _ b (c .before .before .before .before .loop .inv .2) (c .before .open-mask .ensures) (c .count-byte .ensures))
+
+returns : tie.Need-returns Inv-loop μ-loop
+returns c = let e : c .before .loop .j ≡ c .before .before .args .n = omega arith in (refl, rw e at (c .before .loop .inv .1), rw e at (c .before .loop .inv .2))
+
+pub open-all-spec : {M : Type 1} → statement M
+open-all-spec =
+    tie.close
+    (tie.spec
+    Inv-loop
+    μ-loop
+    loop-holds
+    mul-open-mask
+    element-copy-out-open-mask
+    open-mask-requires
+    mul-masks
+    array-write-masks
+    count-byte-requires
+    array-write-counts
+    add-j
+    loop-less
+    loop-again
+    returns)

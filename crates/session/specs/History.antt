@@ -1,0 +1,62 @@
+-- Calls one after another, each on the position that the last one left; and what the plain list of plays says of a call.
+use Prim.Native.Nat.{ℕ}
+use mathlib.Core.Bool.{cond}
+use mathlib.Core.List.{List, [], _∷_, _++_}
+use lib.Dec.{eqb, ltb}
+use lib.ListN.{length}
+use Rattle.refusal.specs.Told.{Told, replied, refused}
+use Rattle.game.specs.Problem.{Problem}
+use Rattle.game.specs.Lists.{domains}
+use Rattle.game.specs.Calls.{Call, play, takeBack}
+use Rattle.game.specs.Open.{openValues, openCounts}
+use Rattle.rules.specs.Alone.{Bytes}
+use Rattle.position.specs.declared.Position.{Position}
+use Rattle.position.specs.Position.{shown}
+use Rattle.session.specs.Plays.{playIn, takeBackIn}
+use Rattle.session.specs.Opening.{spread}
+use Rattle.session.specs.Told.{playTold, playLeft, takeBackTold, takeBackLeft}
+
+module _ (f : List ℕ) (bytes : Bytes f) where
+  -- What a call tells, and the position that it returns, also where it is refused.
+  unfoldable pub callTold : Position → Call → Told
+  callTold p (play a) = playTold f bytes p a
+  callTold p takeBack = takeBackTold f bytes p
+
+  unfoldable pub step : Position → Call → Position
+  step p (play a) = playLeft f bytes p a
+  step p takeBack = takeBackLeft f bytes p
+
+  -- The position that calls reach from p; from the fresh position.
+  unfoldable pub reachedFrom : Position → List Call → Position
+  reachedFrom p [] = p
+  reachedFrom p (c ∷ cs) = reachedFrom (step p c) cs
+
+  unfoldable pub reachedBy : List Call → Position
+  reachedBy cs = reachedFrom (shown []) cs
+
+-- The same over n variables with these domains.
+module _ (n : ℕ) (masks : List ℕ) where
+  unfoldable pub stepIn : Position → Call → Position
+  stepIn p (play a) = playIn n masks p a .position
+  stepIn p takeBack = takeBackIn n masks p .position
+
+  unfoldable pub reachedIn : Position → List Call → Position
+  reachedIn p [] = p
+  reachedIn p (c ∷ cs) = reachedIn (stepIn p c) cs
+
+-- What a call tells by the plain list l alone: done where the list changes, else the state's or the input's number.
+unfoldable pub listTold : Problem → List ℕ → Call → Told
+listTold P l (play a) = cond (ltb (length l) (P .n)) (cond (domains (P .domain) (length l) a) (replied []) (refused 10)) (refused 20)
+listTold P l takeBack = cond (eqb (length l) 0) (refused 21) (replied [])
+
+-- What open values tell by the plain list alone: those of a problem in which these plays stand, and their counts.
+unfoldable pub listOpened : Problem → List ℕ → Told
+listOpened P l = replied (spread (openValues P l) ++ spread (openCounts P l))
+
+-- A call in a byte: 255 is a take-back, any other number a play of that value.
+unfoldable pub callOf : ℕ → Call
+callOf b = cond (eqb b 255) takeBack (play b)
+
+unfoldable pub callsOf : List ℕ → List Call
+callsOf [] = []
+callsOf (b ∷ bs) = callOf b ∷ callsOf bs

@@ -1,0 +1,94 @@
+// The session's core by value: a play, a take-back and the open values of a position. Each call reads the file first, then
+// tests the position, then its argument. `play`, `take_back` and `open_values` are open to callers;
+// `open_in` and `replay_in` are for the replay, which reads the file once.
+ghost use mathlib.Core.Path.{_≡_};
+ghost use Rattle.rules.specs.Alone.{Bytes};
+ghost use Rattle.session.specs.Told.{told, toldOpened, playTold, playLeft, takeBackTold, takeBackLeft, openTold, masksShown, countsShown};
+
+mod open;
+mod plays;
+mod replay;
+
+pub use open::open_in;
+use plays::play_in;
+use plays::take_back_in;
+use position::Position;
+use problem_file::Header;
+use problem_file::read;
+pub use replay::replay_in;
+use tables::decode;
+
+// What a call answers: done; refused by number; the file's refusal with its place.
+pub enum Answer {
+    Done,
+    Refused(u8),
+    RefusedAt(u8, usize),
+}
+
+// What a play or a take-back answers, and the position that it leads to; a refused call returns the one that it was given.
+pub struct Played {
+    pub answer: Answer,
+    pub position: Position,
+}
+
+// The open values of each variable as a mask, and how many they are. Zero at n and above, and where the call is refused.
+pub struct Opened {
+    pub answer: Answer,
+    pub masks: [u16; 32],
+    pub counts: [u8; 32],
+}
+
+// Plays this value of the next variable.
+pub fn play(f: &[u8], p: Position, value: usize) -> Played
+    ensures { λ r. ⌜ ((bytes : Bytes (now (f .entry))) → told (r .answer) ≡ playTold (now (f .entry)) bytes p value) ⌝ }
+    ensures { λ r. ⌜ ((bytes : Bytes (now (f .entry))) → r .position ≡ playLeft (now (f .entry)) bytes p value) ⌝ }
+{
+    let r = read(f);
+    let h = r.header;
+    let d = r.domains;
+    match h {
+        Header::Refused(number, place) => Played {
+            answer: Answer::RefusedAt(number, place),
+            position: p,
+        },
+        Header::Accepted(n, _, _, _) => play_in(n as usize, &d, p, value),
+    }
+}
+
+// Takes the last play back.
+pub fn take_back(f: &[u8], p: Position) -> Played
+    ensures { λ r. ⌜ ((bytes : Bytes (now (f .entry))) → told (r .answer) ≡ takeBackTold (now (f .entry)) bytes p) ⌝ }
+    ensures { λ r. ⌜ ((bytes : Bytes (now (f .entry))) → r .position ≡ takeBackLeft (now (f .entry)) bytes p) ⌝ }
+{
+    let r = read(f);
+    let h = r.header;
+    let d = r.domains;
+    match h {
+        Header::Refused(number, place) => Played {
+            answer: Answer::RefusedAt(number, place),
+            position: p,
+        },
+        Header::Accepted(n, _, _, _) => take_back_in(n as usize, &d, p),
+    }
+}
+
+// The open values of every variable.
+pub fn open_values(f: &[u8], p: Position) -> Opened
+    ensures { λ r. ⌜ ((bytes : Bytes (now (f .entry))) → toldOpened r ≡ openTold (now (f .entry)) bytes p) ⌝ }
+    ensures { λ r. ⌜ ((bytes : Bytes (now (f .entry))) → (r .masks ≡ masksShown (now (f .entry)) bytes p) × (r .counts ≡ countsShown (now (f .entry)) bytes p)) ⌝ }
+{
+    let mut near = [0u32; 32];
+    let mut index = [0u16; 1024];
+    let mut rows = [0u16; 15888];
+    let r = decode(f, &mut near, &mut index, &mut rows);
+    let h = r.header;
+    let d = r.domains;
+    match h {
+        Header::Refused(number, place) => Opened {
+            answer: Answer::RefusedAt(number, place),
+            masks: [0u16; 32],
+            counts: [0u8; 32],
+        },
+        Header::Accepted(n, _, _, u) => open_in(&index, &rows, n as usize, u, &d, p),
+    }
+}
