@@ -94,7 +94,8 @@ module _ (p : Position) (n : ℕ) (masks w x : List ℕ) (f : FirstWords p n mas
   pub first-blank : Blank (roomOf n (p .plays)) x
   first-blank k a b = f .behind k a ∙ z k b
 
-  pub room-kept : (y v : List ℕ) (won : Bool) → Leaves n (roomOf n (p .plays)) won x y → v ≡ leafCleared y → roomOf n (p .plays) ≤ length w → p .plays ≤ n → n ≤ 32 → v ≡ w
+  pub room-kept : (y v : List ℕ) (won : Bool) → Leaves n (roomOf n (p .plays)) won x y → v ≡ zeroed 96 128 y → roomOf n (p .plays) ≤ length w → p .plays ≤ n → n ≤ 32 → v ≡ w
+  unfolding leafCleared
   room-kept y v won t e b h m =
       let s = t .size in
       let g = f .size in
