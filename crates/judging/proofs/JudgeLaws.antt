@@ -3,29 +3,28 @@ use mathlib.Core.Path.{_≡_, refl, sym, ap, _∙_}
 use mathlib.Core.Bool.{Bool, true, false, cond}
 use mathlib.Core.List.{List, [], _∷_}
 use Prim.Native.Nat.{ℕ, _≤_}
-use native.Mathlib.Omega.{arith}
 use lib.Dec.{T}
-use lib.ListN.{getD, length, take}
+use lib.ListN.{length, take}
 use Rattle.refusal.specs.declared.Verdict.{Verdict}
 use Rattle.refusal.specs.declared.Verdict.the-variants.{Fine}
 use Rattle.refusal.specs.declared.Verdict.the-variants.{Refused as Not}
-use Rattle.refusal.specs.Told.{Told, replied, refused}
+use Rattle.refusal.specs.Told.{replied, refused}
 use Rattle.file_layout.specs.declared.Rules.{Rules}
 use Rattle.problem_file.specs.Reading.{domainsOf}
 use Rattle.problem_file.proofs.Accepted.{Shows}
 use Rattle.game.specs.Problem.{Problem}
 use Rattle.game.specs.Position.{legal}
 use Rattle.game.specs.Winning.{verdict}
-use Rattle.game.specs.Search.{is-solved, solved, failed, searchFrom}
+use Rattle.game.specs.Search.{is-solved, solved, failed}
 use Rattle.theory.proofs.Theorems.{search-answers}
 use Rattle.tables.specs.FileProblem.{problemOf}
 use Rattle.tables.specs.Decoded.{Decodes}
-use Rattle.rules.specs.Alone.{Bytes, listFor}
+use Rattle.rules.specs.Alone.{Bytes}
 use Rattle.rules.proofs.ReadLaws.{read-fine, holds-of, fits-of}
 use Rattle.rules.proofs.ReplyLaws.{list-refused, list-left}
 use Rattle.arrays.specs.Arrays.{InRange}
 use Rattle.position.specs.declared.Position.{Position}
-use Rattle.position.specs.Position.{playsOf, fitsIn}
+use Rattle.position.specs.Position.{playsOf}
 use Rattle.position.proofs.Fitting.{fits-legal}
 use Rattle.turn_words.specs.TurnRoom.{zeroed}
 use Rattle.search_run.specs.declared.Ran.{Ran}

@@ -1,11 +1,11 @@
 -- The tests before a search.
-use mathlib.Core.Path.{_≡_, sym, ap, ap₂, subst, _∙_}
-use mathlib.Core.Bool.{Bool, true, _&&_}
+use mathlib.Core.Path.{_≡_, sym, ap₂, subst, _∙_}
+use mathlib.Core.Bool.{Bool, true}
 use mathlib.Core.List.{List}
-use Prim.Native.Nat.{ℕ, _≤_, _<_}
+use Prim.Native.Nat.{ℕ, _≤_}
 use native.Mathlib.Omega.{arith}
 use lib.Dec.{T, leb}
-use lib.ListN.{getD, length, take}
+use lib.ListN.{take}
 use lib.Seq.{getD-take}
 use borrow.Author.Tests.{le-leb, leb-true}
 use Rattle.mask.specs.Range.{each}

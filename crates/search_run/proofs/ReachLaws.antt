@@ -1,21 +1,18 @@
 -- What the rules of a turn reach, also in a loss: the list of the rules with reasons is that of the plain rules.
-use mathlib.Core.Path.{_≡_, refl, sym, ap, subst, _∙_}
+use mathlib.Core.Path.{_≡_, refl, sym, ap, _∙_}
 use mathlib.Core.Bool.{Bool, true, false, cond}
 use mathlib.Core.List.{List}
 use Prim.Native.Nat.{ℕ, _≤_, _<_}
 use native.Mathlib.Omega.{arith}
-use lib.Dec.{T}
 use lib.ListN.{getD, length}
 use Rattle.mask.proofs.Logic.{by-lt}
 use Rattle.game.specs.Problem.{Problem}
-use Rattle.game.specs.Rule.{Ruled}
 use Rattle.game.specs.Turn.{reached}
 use Rattle.game.specs.Reasons.{explained}
 use Rattle.game.specs.Search.{narrowNext}
 use Rattle.theory.proofs.Theorems as theorems
 use Rattle.theory.proofs.Plain.{ruled, reached-plain, reached-end}
 use Rattle.theory.proofs.Search.{F, foe, foe-in}
-use Rattle.theory.proofs.SearchNotions.{TurnOf}
 use Rattle.theory.proofs.Turns.{At, turn-at}
 use Rattle.arrays.specs.Arrays.{States}
 use Rattle.arrays.specs.Words.{listIn, whyIn}

@@ -1,11 +1,11 @@
+use borrow.Author.Needs.{needs}
+use mathlib.Core.Path.{sym, ap, _∙_}
+use native.Mathlib.Omega.{arith}
 use Rattle.judging.proofs.JudgeLaws.{ready-of, judged-file}
-use Rattle.rules.proofs.ReadLaws.{read-refused}
 use Rattle.judging.specs.Judging.{told, judgeTold, judgeLeft}
 use Rattle.problem_file.proofs.Accepted.{header-shows, header-refuses}
 use Rattle.problem_file.specs.Reading.{told as toldHeader}
-use native.Mathlib.Omega.{arith}
-use mathlib.Core.Path.{sym, ap, _∙_}
-use borrow.Author.Needs.{needs}
+use Rattle.rules.proofs.ReadLaws.{read-refused}
 use Rattle.judging.proofs.judge.Statement.{statement}
 use Rattle.judging.proofs.judge.Tie as tie
 

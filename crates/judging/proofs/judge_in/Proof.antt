@@ -1,9 +1,9 @@
+use borrow.Author.Needs.{needs}
+use lib.ListN.{length}
 use mathlib.Core.Path.{_≡_}
+use native.Mathlib.Omega.{arith}
 use Rattle.judging.proofs.JudgeLaws.{judges-refused, judges-ran, told-won, told-lost}
 use Rattle.judging.proofs.TestLaws.{test-fine}
-use lib.ListN.{length}
-use native.Mathlib.Omega.{arith}
-use borrow.Author.Needs.{needs}
 use Rattle.judging.proofs.judge_in.Statement.{statement}
 use Rattle.judging.proofs.judge_in.Tie as tie
 

@@ -1,9 +1,9 @@
-use Rattle.search_run.proofs.RunLaws.{first-stands, first-blank, run-finds, room-kept}
-use Rattle.position.proofs.Fitting.{fits-plays}
-use lib.ListN.{length}
-use native.Mathlib.Omega.{arith}
-use mathlib.Core.Path.{_≡_}
 use borrow.Author.Needs.{needs}
+use lib.ListN.{length}
+use mathlib.Core.Path.{_≡_}
+use native.Mathlib.Omega.{arith}
+use Rattle.position.proofs.Fitting.{fits-plays}
+use Rattle.search_run.proofs.RunLaws.{first-stands, first-blank, run-finds, room-kept}
 use Rattle.search_run.proofs.run_in.Statement.{statement}
 use Rattle.search_run.proofs.run_in.Tie as tie
 

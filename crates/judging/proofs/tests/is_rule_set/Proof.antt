@@ -1,6 +1,6 @@
-use Rattle.rule_set.specs.RuleSet.{isRuleSet}
-use mathlib.Core.Path.{refl}
 use borrow.Author.Needs.{needs}
+use mathlib.Core.Path.{refl}
+use Rattle.rule_set.specs.RuleSet.{isRuleSet}
 use Rattle.judging.proofs.tests.is_rule_set.Statement.{statement}
 use Rattle.judging.proofs.tests.is_rule_set.Tie as tie
 

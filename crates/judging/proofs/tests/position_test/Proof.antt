@@ -1,8 +1,8 @@
-use Rattle.judging.specs.Tests.{positionTest}
-use Rattle.refusal.specs.Chain.{_then_, need}
+use borrow.Author.Needs.{needs}
 use mathlib.Core.Bool.{Bool}
 use mathlib.Core.Path.{ap, ap₂, _∙_}
-use borrow.Author.Needs.{needs}
+use Rattle.judging.specs.Tests.{positionTest}
+use Rattle.refusal.specs.Chain.{_then_, need}
 use Rattle.judging.proofs.tests.position_test.Statement.{statement}
 use Rattle.judging.proofs.tests.position_test.Tie as tie
 
