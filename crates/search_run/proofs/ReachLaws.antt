@@ -31,7 +31,7 @@ module _ (P : Problem) (S c : ℕ) (p l R : List ℕ) (on : At P c p l R) where
   played-list : length p ≡ n → reached P S c p l .list ≡ explained P S c p l R .list
   played-list h = ap {B = List ℕ} (λ r. r .list) (reached-end P (F P) (foe P) (foe-in P) S c p l R (on .checked) h (on .entry .ready))
 
-  -- A rule found a loss: "at a loss as the rule that found it left the list".
+  -- A rule found a loss, and left the list so.
   lost-list : explained P S c p l R .loss ≡ true → reached P S c p l .list ≡ explained P S c p l R .list
   lost-list e = by-lt (length p) n
       (λ h. let q : reached P S c p l ≡ ruled (explained P S c p l R) =
