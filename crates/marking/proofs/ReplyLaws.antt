@@ -11,6 +11,7 @@ use Rattle.refusal.specs.declared.Verdict.the-variants.{Fine}
 use Rattle.refusal.specs.declared.Verdict.the-variants.{Refused as Not}
 use Rattle.refusal.specs.Chain.{_then_, need}
 use Rattle.refusal.proofs.Chain.{then-fine, need-fine}
+use Rattle.rule_set.specs.RuleSet.{fullSet}
 use Rattle.game.specs.Problem.{Problem}
 use Rattle.theory.proofs.Theorems.{marks-are}
 use Rattle.rules.proofs.ReplyLaws.{list-refused, list-left}
@@ -28,7 +29,7 @@ use Rattle.marking.specs.Marks.{Wins}
 use Rattle.marking.specs.Marking.{told, markTest, markReply, markRoom, MarksIn}
 
 -- What fine tests say.
-pub mark-fine : (n : ℕ) (masks : List ℕ) (p : Position) (set words : ℕ) → markTest n masks p set words ≡ Fine → (set ≤ 127) × T (fitsIn p n masks) × (p .plays < n) × (roomNeeded n ≤ words)
+pub mark-fine : (n : ℕ) (masks : List ℕ) (p : Position) (set words : ℕ) → markTest n masks p set words ≡ Fine → (set ≤ fullSet) × T (fitsIn p n masks) × (p .plays < n) × (roomNeeded n ≤ words)
 unfolding markTest
 mark-fine n masks p set words e =
     let a = then-fine _ _ e in
