@@ -25,10 +25,19 @@ play-in-requires c κs = read-most _ _ _ _ _ (header-shows _ _ _ _ _ (ap toldHea
 
 returns : tie.Need-returns
 unfolding toldWith told playTold playLeft
-returns c = let q = header-refuses _ _ _ (ap toldHeader (sym (c .before .h .given .1)) ∙ c .before .before .before .before .read .ensures .0) in (λ bytes. sym (read-refused _ bytes _ _ _ _ q), λ bytes. sym (read-refused _ bytes _ _ _ _ q))
+returns c =
+    let q = header-refuses _ _ _ (ap toldHeader (sym (c .before .h .given .1)) ∙ c .before .before .before .before .read .ensures .0) in (
+      λ bytes. sym (read-refused _ bytes _ _ _ _ q),
+      λ bytes. sym (read-refused _ bytes _ _ _ _ q),
+    )
 
 returns-2 : tie.Need-returns-2
-returns-2 c = let s = header-shows _ _ _ _ _ (ap toldHeader (sym (c .before .before .before .h2 .given .1)) ∙ c .before .before .before .before .before .before .read .ensures .0) in (λ bytes. play-read _ bytes _ _ _ _ _ _ s (c .before .before .before .before .before .before .read .ensures .1) _ _ (c .play-in .ensures) .0, λ bytes. play-read _ bytes _ _ _ _ _ _ s (c .before .before .before .before .before .before .read .ensures .1) _ _ (c .play-in .ensures) .1)
+returns-2 c =
+    let d = c .before .before .before .before .before .before .read .ensures in
+    let s = header-shows _ _ _ _ _ (ap toldHeader (sym (c .before .before .before .h2 .given .1)) ∙ d .0) in (
+      λ bytes. play-read _ bytes _ _ _ _ _ _ s (d .1) _ _ (c .play-in .ensures) .0,
+      λ bytes. play-read _ bytes _ _ _ _ _ _ s (d .1) _ _ (c .play-in .ensures) .1,
+    )
 
 pub play-spec : {M : Type 1} → statement M
 play-spec =

@@ -25,10 +25,19 @@ take-back-in-requires c κs = read-most _ _ _ _ _ (header-shows _ _ _ _ _ (ap to
 
 returns : tie.Need-returns
 unfolding toldWith told takeBackTold takeBackLeft
-returns c = let q = header-refuses _ _ _ (ap toldHeader (sym (c .before .h .given .1)) ∙ c .before .before .before .before .read .ensures .0) in (λ bytes. sym (read-refused _ bytes _ _ _ _ q), λ bytes. sym (read-refused _ bytes _ _ _ _ q))
+returns c =
+    let q = header-refuses _ _ _ (ap toldHeader (sym (c .before .h .given .1)) ∙ c .before .before .before .before .read .ensures .0) in (
+      λ bytes. sym (read-refused _ bytes _ _ _ _ q),
+      λ bytes. sym (read-refused _ bytes _ _ _ _ q),
+    )
 
 returns-2 : tie.Need-returns-2
-returns-2 c = let s = header-shows _ _ _ _ _ (ap toldHeader (sym (c .before .before .before .h2 .given .1)) ∙ c .before .before .before .before .before .before .read .ensures .0) in (λ bytes. take-back-read _ bytes _ _ _ _ _ _ s (c .before .before .before .before .before .before .read .ensures .1) _ (c .take-back-in .ensures) .0, λ bytes. take-back-read _ bytes _ _ _ _ _ _ s (c .before .before .before .before .before .before .read .ensures .1) _ (c .take-back-in .ensures) .1)
+returns-2 c =
+    let d = c .before .before .before .before .before .before .read .ensures in
+    let s = header-shows _ _ _ _ _ (ap toldHeader (sym (c .before .before .before .h2 .given .1)) ∙ d .0) in (
+      λ bytes. take-back-read _ bytes _ _ _ _ _ _ s (d .1) _ (c .take-back-in .ensures) .0,
+      λ bytes. take-back-read _ bytes _ _ _ _ _ _ s (d .1) _ (c .take-back-in .ensures) .1,
+    )
 
 pub take-back-spec : {M : Type 1} → statement M
 take-back-spec =
