@@ -1,5 +1,5 @@
 -- Calls one after another: the position shows the plays that stand, and the replies are those of the plain list.
-use mathlib.Core.Path.{_≡_, refl, sym, ap, _∙_}
+use mathlib.Core.Path.{_≡_, refl, sym, ap, ap₂, _∙_}
 use mathlib.Core.Bool.{Bool, true, false, cond, _&&_}
 use mathlib.Core.List.{List, [], _∷_, _++_}
 use Prim.Native.Nat.{ℕ, _≤_}
@@ -15,6 +15,7 @@ use Rattle.refusal.specs.Chain.{_then_, need}
 use Rattle.refusal.proofs.Chain.{need-ok}
 use Rattle.refusal.specs.Told.{replied, refused}
 use Rattle.file_layout.specs.declared.Rules.{Rules}
+use Rattle.file_layout.specs.Layout.{nOf}
 use Rattle.file_records.specs.Records.{verdictOf}
 use Rattle.problem_file.specs.Reading.{domainsOf}
 use Rattle.problem_file.proofs.Accepted.{Shows}
@@ -39,7 +40,8 @@ use Rattle.session.specs.Plays.{answerBy, positionBy, fitTest, playTest,
 use Rattle.session.specs.Opening.{spread, listBy, openIn}
 use Rattle.session.specs.Told.{toldWith, told, toldOpened, openTold, masksShown, countsShown}
 use Rattle.session.specs.History.{callTold, step, reachedFrom, reachedBy, stepIn, reachedIn, listTold, listOpened}
-use Rattle.session.proofs.FileLaws.{play-told, play-left, take-back-told, take-back-left, open-told, masks-shown, counts-shown, play-read, take-back-read}
+use Rattle.session.proofs.FileLaws.{play-told, play-left, take-back-told, take-back-left, open-told, masks-shown, counts-shown, read-domains}
+use Rattle.session.proofs.PlayLaws.{play-same, take-back-same}
 
 module _ (P : Problem) (small : P .n ≤ 32) where
   -- A position that shows legal plays fits.
@@ -145,8 +147,14 @@ module _ (f : List ℕ) (bytes : Bytes f) (fine : verdictOf f ≡ Fine) where
   module _ (D : List ℕ) (n m : ℕ) (rules : Rules) (u : ℕ) (s : Shows f n m rules u) (d : D ≡ domainsOf f) where
     step-read : (p : Position) (c : Call) → stepIn n D p c ≡ step f bytes p c
     unfolding stepIn step
-    step-read p (play a) = play-read f bytes p D n m rules u s d a (playIn n D p a) refl .1
-    step-read p takeBack = take-back-read f bytes p D n m rules u s d (takeBackIn n D p) refl .1
+    step-read p (play a) =
+        ap₂ (λ (k : ℕ) (E : List ℕ). playIn k E p a .position) (s .variables) d
+        ∙ ap (λ (r : Played). r .position) (play-same P (nOf f) (domainsOf f) (read-domains f bytes fine) p a)
+        ∙ sym (play-left f bytes p fine a)
+    step-read p takeBack =
+        ap₂ (λ (k : ℕ) (E : List ℕ). takeBackIn k E p .position) (s .variables) d
+        ∙ ap (λ (r : Played). r .position) (take-back-same P (nOf f) (domainsOf f) (read-domains f bytes fine) p)
+        ∙ sym (take-back-left f bytes p fine)
 
     from-read : (p : Position) (cs : List Call) → reachedIn n D p cs ≡ reachedFrom f bytes p cs
     unfolding reachedIn reachedFrom

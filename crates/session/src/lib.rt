@@ -1,20 +1,21 @@
 // The session's core by value: a play, a take-back and the open values of a position. Each call reads the file first, then
 // tests the position, then its argument. `play`, `take_back` and `open_values` are open to callers;
-// `open_in` and `replay_in` are for the replay, which reads the file once.
+// `play_file` and `take_back_file` are for the panel's session, `open_in` and `replay_in` for the replay, which reads the
+// file once.
 ghost use mathlib.Core.Path.{_≡_};
 ghost use Rattle.rules.specs.Alone.{Bytes};
 ghost use Rattle.session.specs.Told.{told, toldOpened, playTold, playLeft, takeBackTold, takeBackLeft, openTold, masksShown, countsShown};
 
+mod files;
 mod open;
 mod plays;
 mod replay;
 
+pub use files::play_file;
+pub use files::take_back_file;
 pub use open::open_in;
-use plays::play_in;
-use plays::take_back_in;
 use position::Position;
 use problem_file::Header;
-use problem_file::read;
 pub use replay::replay_in;
 use tables::decode;
 
@@ -43,16 +44,7 @@ pub fn play(f: &[u8], p: Position, value: usize) -> Played
     ensures { λ r. ⌜ ((bytes : Bytes (now (f .entry))) → told (r .answer) ≡ playTold (now (f .entry)) bytes p value) ⌝ }
     ensures { λ r. ⌜ ((bytes : Bytes (now (f .entry))) → r .position ≡ playLeft (now (f .entry)) bytes p value) ⌝ }
 {
-    let r = read(f);
-    let h = r.header;
-    let d = r.domains;
-    match h {
-        Header::Refused(number, place) => Played {
-            answer: Answer::RefusedAt(number, place),
-            position: p,
-        },
-        Header::Accepted(n, _, _, _) => play_in(n as usize, &d, p, value),
-    }
+    play_file(f, p, value)
 }
 
 // Takes the last play back.
@@ -60,16 +52,7 @@ pub fn take_back(f: &[u8], p: Position) -> Played
     ensures { λ r. ⌜ ((bytes : Bytes (now (f .entry))) → told (r .answer) ≡ takeBackTold (now (f .entry)) bytes p) ⌝ }
     ensures { λ r. ⌜ ((bytes : Bytes (now (f .entry))) → r .position ≡ takeBackLeft (now (f .entry)) bytes p) ⌝ }
 {
-    let r = read(f);
-    let h = r.header;
-    let d = r.domains;
-    match h {
-        Header::Refused(number, place) => Played {
-            answer: Answer::RefusedAt(number, place),
-            position: p,
-        },
-        Header::Accepted(n, _, _, _) => take_back_in(n as usize, &d, p),
-    }
+    take_back_file(f, p)
 }
 
 // The open values of every variable.

@@ -1,7 +1,6 @@
 // The open values of a position over the arrays of a problem.
 ghost use mathlib.Core.Path.{_≡_};
 ghost use Prim.Native.Nat.{_%_, _≤_, _<_};
-ghost use lib.ListN.{getD};
 ghost use Rattle.mask.specs.Range.{count};
 ghost use Rattle.mask.specs.Mask.{bit};
 ghost use Rattle.arrays.specs.Arrays.{InRange};

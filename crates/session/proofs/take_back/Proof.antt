@@ -1,43 +1,13 @@
 use borrow.Author.Needs.{needs}
-use mathlib.Core.Path.{sym, ap, _∙_}
-use Rattle.rules.proofs.ReadLaws.{read-refused}
-use Rattle.problem_file.proofs.Accepted.{header-shows, header-refuses}
-use Rattle.problem_file.specs.Reading.{told as toldHeader}
-use Rattle.session.proofs.FileLaws.{read-most, take-back-read}
-use Rattle.session.specs.Told.{toldWith, told, takeBackTold, takeBackLeft}
+use Rattle.session.proofs.FileLaws.{take-back-file}
 use Rattle.session.proofs.take_back.Statement.{statement}
 use Rattle.session.proofs.take_back.Tie as tie
 
-read-requires : tie.Need-read-requires
-read-requires c κs = search needs
-
-enum-known-h : tie.Need-enum-known-h
-enum-known-h c = search needs
-
-enum-known-h-2 : tie.Need-enum-known-h-2
-enum-known-h-2 c = search needs
-
-cast-take-back-in : tie.Need-cast-take-back-in
-cast-take-back-in c = search needs
-
-take-back-in-requires : tie.Need-take-back-in-requires
-take-back-in-requires c κs = read-most _ _ _ _ _ (header-shows _ _ _ _ _ (ap toldHeader (sym (c .before .before .h2 .given .1)) ∙ c .before .before .before .before .before .read .ensures .0))
+take-back-file-requires : tie.Need-take-back-file-requires
+take-back-file-requires c κs = search needs
 
 returns : tie.Need-returns
-unfolding toldWith told takeBackTold takeBackLeft
-returns c = let q = header-refuses _ _ _ (ap toldHeader (sym (c .before .h .given .1)) ∙ c .before .before .before .before .read .ensures .0) in (λ bytes. sym (read-refused _ bytes _ _ _ _ q), λ bytes. sym (read-refused _ bytes _ _ _ _ q))
-
-returns-2 : tie.Need-returns-2
-returns-2 c = let s = header-shows _ _ _ _ _ (ap toldHeader (sym (c .before .before .before .h2 .given .1)) ∙ c .before .before .before .before .before .before .read .ensures .0) in (λ bytes. take-back-read _ bytes _ _ _ _ _ _ s (c .before .before .before .before .before .before .read .ensures .1) _ (c .take-back-in .ensures) .0, λ bytes. take-back-read _ bytes _ _ _ _ _ _ s (c .before .before .before .before .before .before .read .ensures .1) _ (c .take-back-in .ensures) .1)
+returns c = (λ bytes. take-back-file _ bytes _ _ (c .take-back-file .ensures) .0, λ bytes. take-back-file _ bytes _ _ (c .take-back-file .ensures) .1)
 
 pub take-back-spec : {M : Type 1} → statement M
-take-back-spec =
-    tie.close
-    (tie.spec
-    read-requires
-    enum-known-h
-    enum-known-h-2
-    cast-take-back-in
-    take-back-in-requires
-    returns
-    returns-2)
+take-back-spec = tie.close (tie.spec take-back-file-requires returns)

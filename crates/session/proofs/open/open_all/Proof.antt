@@ -47,10 +47,18 @@ loop-less : tie.Need-loop-less Inv-loop μ-loop
 loop-less c = search needs
 
 loop-again : tie.Need-loop-again Inv-loop μ-loop
-loop-again c = let b : c .before .before .before .before .loop .j < 32 = search needs in (search needs, masks-next _ _ _ _ _ _ _ _ _ b (c .before .before .before .before .loop .inv .1) (c .before .open-mask .ensures), counts-next _ _ _ _ _ _ _ _ _ _ b (c .before .before .before .before .loop .inv .2) (c .before .open-mask .ensures) (c .count-byte .ensures))
+loop-again c =
+    let l = c .before .before .before .before .loop in
+    let b : l .j < 32 = search needs in (
+      search needs,
+      masks-next _ _ _ _ _ _ _ _ _ b (l .inv .1) (c .before .open-mask .ensures),
+      counts-next _ _ _ _ _ _ _ _ _ _ b (l .inv .2) (c .before .open-mask .ensures) (c .count-byte .ensures),
+    )
 
 returns : tie.Need-returns Inv-loop μ-loop
-returns c = let e : c .before .loop .j ≡ c .before .before .args .n = omega arith in (refl, rw e at (c .before .loop .inv .1), rw e at (c .before .loop .inv .2))
+returns c =
+    let e : c .before .loop .j ≡ c .before .before .args .n = omega arith in
+    (refl, rw e at (c .before .loop .inv .1), rw e at (c .before .loop .inv .2))
 
 pub open-all-spec : {M : Type 1} → statement M
 open-all-spec =

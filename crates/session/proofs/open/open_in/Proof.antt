@@ -17,13 +17,16 @@ enum-told : tie.Need-enum-told
 enum-told c = search needs
 
 open-all-requires : tie.Need-open-all-requires
-open-all-requires c κs = let k = fits-plays _ _ _ (fit-fine _ _ _ (sym (c .before .before .before .before .fit-test .ensures) ∙ c .before .before .enum-told .given .1)) in (search needs, omega arith, c .before .before .before .before .before .pre .1)
+open-all-requires c κs =
+    let k = fits-plays _ _ _ (fit-fine _ _ _ (sym (c .before .before .before .before .fit-test .ensures) ∙ c .before .before .enum-told .given .1)) in
+    (search needs, omega arith, c .before .before .before .before .before .pre .1)
 
 returns : tie.Need-returns
 returns c = λ P near h. open-refused P _ _ near _ _ _ h _ _ _ (sym (c .before .before .before .fit-test .ensures) ∙ c .before .v .given .1)
 
 returns-2 : tie.Need-returns-2
-returns-2 c = λ P near h. open-done P _ _ near _ _ _ h _ _ (search needs) (sym (c .before .before .before .before .before .fit-test .ensures) ∙ c .before .before .before .enum-told .given .1) (c .open-all .ensures .0) (c .open-all .ensures .1) (c .open-all .ensures .2)
+returns-2 c = λ P near h.
+    open-done P _ _ near _ _ _ h _ _ (search needs) (sym (c .before .before .before .before .before .fit-test .ensures) ∙ c .before .before .before .enum-told .given .1) (c .open-all .ensures .0) (c .open-all .ensures .1) (c .open-all .ensures .2)
 
 pub open-in-spec : {M : Type 1} → statement M
 open-in-spec =
