@@ -1,0 +1,55 @@
+use Prim.Native.Nat.{_-_, _≤_}
+use mathlib.Core.Path.{_≡_, _∙_}
+use lib.ListN.{length}
+use borrow.Author.Needs.{needs}
+use Rattle.rules.specs.Alone.{Bytes}
+use Rattle.session.specs.History.{reachedBy}
+use Rattle.history.specs.Replay.{callsOf}
+use Rattle.history.proofs.ByteLaws.{rest, rest-start, rest-next, rest-end}
+use Rattle.history.proofs.reached.Statement.{statement}
+use Rattle.history.proofs.reached.Tie as tie
+
+abbrev Inv-loop : tie.InvT-loop
+Inv-loop f calls p₀ i₀ p i = (i ≤ length calls) × ((bytes : Bytes f) → rest f bytes calls i p ≡ reachedBy f bytes (callsOf calls))
+
+abbrev μ-loop : tie.MeasureT-loop
+μ-loop f calls p₀ i₀ p i = length calls - i
+
+fresh-requires : tie.Need-fresh-requires Inv-loop μ-loop
+fresh-requires c κs = search needs
+
+loop-holds : tie.Need-loop-holds Inv-loop μ-loop
+loop-holds c = (search needs, λ bytes. rest-start _ bytes _ _ (c .fresh .ensures))
+
+shared-slice-read-called : tie.Need-shared-slice-read-called Inv-loop μ-loop
+shared-slice-read-called c = search needs
+
+called-requires : tie.Need-called-requires Inv-loop μ-loop
+called-requires c κs = search needs
+
+add-i : tie.Need-add-i Inv-loop μ-loop
+add-i c = search needs
+
+loop-less : tie.Need-loop-less Inv-loop μ-loop
+loop-less c = search needs
+
+loop-again : tie.Need-loop-again Inv-loop μ-loop
+loop-again c = (search needs, λ bytes. rest-next _ bytes _ _ _ _ (search needs) (c .called .ensures bytes) ∙ c .before .before .before .loop .inv .1 bytes)
+
+returns : tie.Need-returns Inv-loop μ-loop
+returns c = λ bytes. rest-end _ bytes _ _ _ _ (search needs) (c .before .loop .inv .1 bytes)
+
+pub reached-spec : {M : Type 1} → statement M
+reached-spec =
+    tie.close
+    (tie.spec
+    Inv-loop
+    μ-loop
+    fresh-requires
+    loop-holds
+    shared-slice-read-called
+    called-requires
+    add-i
+    loop-less
+    loop-again
+    returns)

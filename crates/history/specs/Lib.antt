@@ -1,0 +1,4 @@
+-- Call histories.
+
+-- Calls as bytes, and what demand 3 asks of the replies reached.
+pub mod Replay
