@@ -14,11 +14,8 @@ use Rattle.refusal.specs.declared.Verdict.the-variants.{Fine}
 use Rattle.refusal.specs.Chain.{_then_, need}
 use Rattle.refusal.proofs.Chain.{need-ok}
 use Rattle.refusal.specs.Told.{replied, refused}
-use Rattle.file_layout.specs.declared.Rules.{Rules}
 use Rattle.file_layout.specs.Layout.{nOf}
 use Rattle.file_records.specs.Records.{verdictOf}
-use Rattle.problem_file.specs.Reading.{domainsOf}
-use Rattle.problem_file.proofs.Accepted.{Shows}
 use Rattle.game.specs.Problem.{Problem}
 use Rattle.game.specs.Lists.{domains}
 use Rattle.game.specs.Position.{legal}
@@ -39,9 +36,8 @@ use Rattle.session.specs.declared.Answer.the-variants.{Done}
 use Rattle.session.specs.Plays.{answerBy, positionBy, fitTest, playTest, takeBackTest, playIn, takeBackIn}
 use Rattle.session.specs.Opening.{spread, listBy, openIn}
 use Rattle.session.specs.Told.{toldWith, told, toldOpened, openTold, masksShown, countsShown}
-use Rattle.session.specs.History.{callTold, step, reachedFrom, reachedBy, stepIn, reachedIn, listTold, listOpened}
-use Rattle.session.proofs.FileLaws.{play-told, play-left, take-back-told, take-back-left, open-told, masks-shown, counts-shown, read-domains}
-use Rattle.session.proofs.PlayLaws.{play-same, take-back-same}
+use Rattle.session.specs.History.{callTold, step, reachedFrom, reachedBy, listTold, listOpened}
+use Rattle.session.proofs.FileLaws.{play-told, play-left, take-back-told, take-back-left, open-told, masks-shown, counts-shown}
 
 module _ (P : Problem) (small : P .n ≤ 32) where
   -- A position that shows legal plays fits.
@@ -142,28 +138,6 @@ module _ (f : List ℕ) (bytes : Bytes f) (fine : verdictOf f ≡ Fine) where
   pub reached-shows : (cs : List Call) → reachedBy f bytes cs ≡ shown (standing P cs)
   unfolding reachedBy standing standingFrom
   reached-shows cs = calls-lead [] cs (standing-legal P [])
-
-  -- The same position is reached over the reading's n and domains.
-  module _ (D : List ℕ) (n m : ℕ) (rules : Rules) (u : ℕ) (s : Shows f n m rules u) (d : D ≡ domainsOf f) where
-    step-read : (p : Position) (c : Call) → stepIn n D p c ≡ step f bytes p c
-    unfolding stepIn step
-    step-read p (play a) =
-        ap₂ (λ (k : ℕ) (E : List ℕ). playIn k E p a .position) (s .variables) d
-        ∙ ap (λ (r : Played). r .position) (play-same P (nOf f) (domainsOf f) (read-domains f bytes fine) p a)
-        ∙ sym (play-left f bytes p fine a)
-    step-read p takeBack =
-        ap₂ (λ (k : ℕ) (E : List ℕ). takeBackIn k E p .position) (s .variables) d
-        ∙ ap (λ (r : Played). r .position) (take-back-same P (nOf f) (domainsOf f) (read-domains f bytes fine) p)
-        ∙ sym (take-back-left f bytes p fine)
-
-    from-read : (p : Position) (cs : List Call) → reachedIn n D p cs ≡ reachedFrom f bytes p cs
-    unfolding reachedIn reachedFrom
-    from-read p [] = refl
-    from-read p (c ∷ cs) = ap (λ (q : Position). reachedIn n D q cs) (step-read p c) ∙ from-read (step f bytes p c) cs
-
-    pub reached-read : (cs : List Call) → reachedIn n D (shown []) cs ≡ reachedBy f bytes cs
-    unfolding reachedBy
-    reached-read cs = from-read (shown []) cs
 
   -- It fits, and its plays are those.
   pub reached-fits : (cs : List Call) → T (fitsIn (reachedBy f bytes cs) (P .n) (P .domain))

@@ -6,8 +6,6 @@ pub mod PlayLaws
 pub mod OpenLaws
 -- What a file's verdict makes of a call.
 pub mod FileLaws
--- Calls in bytes, one after another.
-pub mod ReplayLaws
 -- Calls one after another: the position shows the plays that stand, and the replies are those of the plain list.
 pub mod HistoryLaws
 -- Calls on one small problem, computed.

@@ -14,7 +14,6 @@ use Rattle.session.specs.declared.Opened.{Opened}
 use Rattle.session.specs.declared.Answer.the-variants.{Done, Refused}
 use Rattle.session.specs.Plays.{answerBy, positionBy, fitTest, playTest, takeBackTest, playIn, takeBackIn}
 use Rattle.session.specs.Opening.{spread, listBy, openIn}
-use Rattle.session.specs.History.{stepIn, reachedIn, callOf, callsOf}
 
 abbrev played : List ℕ → ℕ → Played
 played l a = playIn (G1 .n) (G1 .domain) (shown l) a
@@ -52,8 +51,3 @@ opens : (openIn G1 (shown (0 ∷ [])) ≡ opened (1 ∷ 2 ∷ []) (1 ∷ 1 ∷ [
     × (openIn G1 (shown (0 ∷ 0 ∷ [])) ≡ opened (1 ∷ 1 ∷ []) (1 ∷ 1 ∷ []))
 unfolding each count bit maskOf need domains listOf masksOf isOpen openValues openCounts shown playsOf placeFits fitsAt fitsIn answerBy fitTest spread listBy openIn
 opens = (refl, refl, refl)
-
--- A replay: 7 is refused, a take-back is, 1 stands, 9 is refused, 1 stands, 0 is refused, the last is taken back, 0 stands.
-replayed : reachedIn (G1 .n) (G1 .domain) (shown []) (callsOf (7 ∷ 255 ∷ 1 ∷ 9 ∷ 1 ∷ 0 ∷ 255 ∷ 0 ∷ [])) ≡ shown (1 ∷ 0 ∷ [])
-unfolding each bit need _then_ shown pushed popped placeFits fitsAt fitsIn answerBy positionBy fitTest playTest takeBackTest playIn takeBackIn stepIn reachedIn callOf callsOf
-replayed = refl

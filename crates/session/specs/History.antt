@@ -12,7 +12,6 @@ use Rattle.game.specs.Open.{openValues, openCounts}
 use Rattle.rules.specs.Alone.{Bytes}
 use Rattle.position.specs.declared.Position.{Position}
 use Rattle.position.specs.Position.{shown}
-use Rattle.session.specs.Plays.{playIn, takeBackIn}
 use Rattle.session.specs.Opening.{spread}
 use Rattle.session.specs.Told.{playTold, playLeft, takeBackTold, takeBackLeft}
 
@@ -34,16 +33,6 @@ module _ (f : List ℕ) (bytes : Bytes f) where
   unfoldable pub reachedBy : List Call → Position
   reachedBy cs = reachedFrom (shown []) cs
 
--- The same over n variables with these domains.
-module _ (n : ℕ) (masks : List ℕ) where
-  unfoldable pub stepIn : Position → Call → Position
-  stepIn p (play a) = playIn n masks p a .position
-  stepIn p takeBack = takeBackIn n masks p .position
-
-  unfoldable pub reachedIn : Position → List Call → Position
-  reachedIn p [] = p
-  reachedIn p (c ∷ cs) = reachedIn (stepIn p c) cs
-
 -- What a call tells by the plain list l alone: done where the list changes, else the state's or the input's number.
 unfoldable pub listTold : Problem → List ℕ → Call → Told
 listTold P l (play a) = cond (ltb (length l) (P .n)) (cond (domains (P .domain) (length l) a) (replied []) (refused 10)) (refused 20)
@@ -52,11 +41,3 @@ listTold P l takeBack = cond (eqb (length l) 0) (refused 21) (replied [])
 -- What open values tell by the plain list alone: those of a problem in which these plays stand, and their counts.
 unfoldable pub listOpened : Problem → List ℕ → Told
 listOpened P l = replied (spread (openValues P l) ++ spread (openCounts P l))
-
--- A call in a byte: 255 is a take-back, any other number a play of that value.
-unfoldable pub callOf : ℕ → Call
-callOf b = cond (eqb b 255) takeBack (play b)
-
-unfoldable pub callsOf : List ℕ → List Call
-callsOf [] = []
-callsOf (b ∷ bs) = callOf b ∷ callsOf bs

@@ -1,7 +1,6 @@
 // The session's core by value: a play, a take-back and the open values of a position. Each call reads the file first, then
 // tests the position, then its argument. `play`, `take_back` and `open_values` are open to callers;
-// `play_file` and `take_back_file` are for the panel's session, `open_in` and `replay_in` for the replay, which reads the
-// file once.
+// `play_file` and `take_back_file` are for the panel's session.
 ghost use mathlib.Core.Path.{_≡_};
 ghost use Rattle.rules.specs.Alone.{Bytes};
 ghost use Rattle.session.specs.Told.{told, toldOpened, playTold, playLeft, takeBackTold, takeBackLeft, openTold, masksShown, countsShown};
@@ -9,14 +8,12 @@ ghost use Rattle.session.specs.Told.{told, toldOpened, playTold, playLef
 mod files;
 mod open;
 mod plays;
-mod replay;
 
 pub use files::play_file;
 pub use files::take_back_file;
-pub use open::open_in;
+use open::open_in;
 use position::Position;
 use problem_file::Header;
-pub use replay::replay_in;
 use tables::decode;
 
 // What a call answers: done; refused by number; the file's refusal with its place.
