@@ -138,7 +138,7 @@ fn pass(
 }
 
 // Passes until no variable has lost values, in the first of which each looks at all its neighbours. There are never more
-// than 16 n: each but the last removes a value.
+// than 16 n: each but the last removes a value. A bit of n or above in dirty would stay, and no pass would be the last.
 pub fn remove_dead(
     near: &[u32; 32],
     index: &[u16; 1024],
@@ -152,7 +152,7 @@ pub fn remove_dead(
 {
     let mut left = 16 * n;
     let mut all: u32 = 4294967295;
-    let mut dirty: u32 = 4294967295;
+    let mut dirty: u32 = 1;
     while left > 0 && dirty != 0 {
         dirty = pass(near, index, rows, n, universal, all, dirty, w);
         all = 0;
