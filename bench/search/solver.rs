@@ -307,17 +307,19 @@ impl Solver<'_> {
     /// The rules 2, 1 and 3 after d plays, of which those from c on are not checked.
     fn run_rules(&self, s: &mut State, c: usize, d: usize) -> Result<(), u32> {
         let p = self.p;
-        let mut changed = if d == 0 { 0 } else { 1 << (d - 1) };
+        let mut changed = 0;
         if self.uses(FORWARD) {
             for k in c..d {
                 changed |= p.forward(s, k, s.domain[k].trailing_zeros() as usize)?;
             }
+        } else if d > 0 {
+            changed = 1 << (d - 1);
         }
         if self.uses(ARC) {
             let first = d == self.start;
             p.arc(s, if first { !0 } else { changed }, first)?;
         }
-        if self.uses(AHEAD) && p.is_universal(d) {
+        if self.uses(AHEAD) && !self.uses(ARC) && p.is_universal(d) {
             p.look_ahead(s, d)?;
         }
         Ok(())
