@@ -1,5 +1,5 @@
 /* Times the proved search against the Rust one on the job files named as arguments, under rule set 111, from no plays. Both run in this process and
-   read and decode the file in every run; a time is the best of several runs, taken in turn. Fails where verdicts differ or the median is above 2.0. */
+   read and decode the file in every run; a time is processor time, the best of several runs, taken in turn. Fails where verdicts differ or the median is above 2.0. */
 #include <stdint.h>
 #include <stdio.h>
 #include <stdlib.h>
@@ -18,7 +18,7 @@ static uint16_t room[WORDS];
 
 static double now(void) {
     struct timespec t;
-    clock_gettime(CLOCK_MONOTONIC, &t);
+    clock_gettime(CLOCK_THREAD_CPUTIME_ID, &t);
     return t.tv_sec * 1e9 + t.tv_nsec;
 }
 
