@@ -168,16 +168,16 @@ module _ (P : Problem) (universal : ℕ) (near index rows : List ℕ) (st : Stat
       go true e h = a .held ∙ ap put (sym (ready-none P (suc v) 0 s (subst (λ d. Ready P 0 d 0 s) (eqb-true (p .dirty) 0 e) (a .ready))))
       go false e h = h
 
-  passes-hold : (v : ℕ) (s : Sheet) → Sized P s → passesIn near index rows universal n v everyone (record { dirty = everyone; words = put s }) .words ≡ put (loop v 0 (λ _. pass P) s)
+  passes-hold : (v : ℕ) (s : Sheet) → Sized P s → passesIn near index rows universal n v everyone (record { dirty = 1; words = put s }) .words ≡ put (loop v 0 (λ _. pass P) s)
   unfolding passesIn loop
   passes-hold zero s z = refl
-  passes-hold (suc v) s z = passes-rest v (passIn near index rows universal n everyone (record { dirty = everyone; words = put s })) (pass P s) (pass-agrees everyone (record { dirty = everyone; words = put s }) s start) ∙ ap put (loop-from (pass P) v 0 1 (pass P s))
+  passes-hold (suc v) s z = passes-rest v (passIn near index rows universal n everyone (record { dirty = 1; words = put s })) (pass P s) (pass-agrees everyone (record { dirty = 1; words = put s }) s start) ∙ ap put (loop-from (pass P) v 0 1 (pass P s))
     where
       ones : (k : ℕ) → k < n → T (bit everyone k)
       ones k l = let m = st .most in true-holds (bit-not 32 0 k (omega arith) (omega arith) ∙ ap not (bit-of-zero k))
 
-      start : Agrees everyone 0 (record { dirty = everyone; words = put s }) s
-      start = record { held = refl; sized = z; ready = ready-first P everyone everyone s ones }
+      start : Agrees everyone 0 (record { dirty = 1; words = put s }) s
+      start = record { held = refl; sized = z; ready = ready-first P everyone 1 s ones }
 
 -- Words of 16 bits hold masks of 16 bits.
 pub sheet-sized : (P : Problem) (w : List ℕ) → ((k : ℕ) → getD w k 0 < 65536) → Sized P (sheetIn (P .n) w)

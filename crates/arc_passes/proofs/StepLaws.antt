@@ -1,16 +1,17 @@
 -- The steps of the code against specs/Passes.antt, over plain variables.
 use mathlib.Core.Path.{_≡_, refl, sym, ap, ap₂, _∙_}
-use mathlib.Core.Bool.{Bool, true, false, cond}
+use mathlib.Core.Bool.{Bool, true, false, cond, _&&_, _||_}
 use mathlib.Core.List.{List}
 use Prim.Native.Nat.{ℕ, zero, suc, _+_, _-_, _≤_, _<_}
 use native.Mathlib.Omega.{arith}
 use native.Mathlib.Numerals.{add-one}
 use lib.Dec.{eqb}
-use lib.Bits.{bitAnd, bitOr}
+use lib.Bits.{bitAnd, bitOr, and-lt, or-lt}
 use lib.ListN.{getD, length, set, length-set}
 use borrow.Author.Tests.{eq-eqb, ne-eqb}
 use Rattle.mask.specs.Range.{first}
 use Rattle.mask.specs.Mask.{bit, rest}
+use Rattle.mask.proofs.Bits.{bit-and, bit-or, bit-ext}
 use Rattle.mask.proofs.Members.{low-lt}
 use Rattle.game.specs.Reasons.{loop}
 use Rattle.arrays.specs.Words.{reasonIn, putReason}
@@ -19,16 +20,26 @@ use Rattle.arc_order.specs.Over.{over}
 use Rattle.arc_order.proofs.Loops.{over-rest, over-none, loop-keeps}
 use Rattle.arc_passes.specs.Passes.{leaves, causeOf, lessened, reviseIn, turnIn, lostAt, marked, Progress, progress, passIn, passesIn}
 
--- A revision that removes values, and one that removes none.
-module _ (index rows : List ℕ) (universal x k : ℕ) (w : List ℕ) (v : ℕ) (l : v ≡ leaves index rows universal x k (getD w k 0)) where
-  pub revise-cut : (q c : ℕ) (r : List ℕ) → ¬ (bitAnd (getD w x 0) v ≡ getD w x 0) → q ≡ reasonIn w k → c ≡ causeOf universal x k q
-      → r ≡ putReason (set w x (bitAnd (getD w x 0) v)) x (bitOr (reasonIn (set w x (bitAnd (getD w x 0) v)) x) c) → r ≡ reviseIn index rows universal x k w
-  unfolding reviseIn lessened
-  revise-cut q c r d e f g = rw (← l, ne-eqb (bitAnd (getD w x 0) v) (getD w x 0) d, ← e, ← f) g
+-- What lies within a mask lies within any join of it.
+pub and-joined : (w m s : ℕ) → w < 65536 → m < 65536 → s < 65536 → bitAnd w m ≡ w → bitAnd w (bitOr m s) ≡ w
+and-joined w m s h k l e =
+    bit-ext 16 (bitAnd w (bitOr m s)) w (and-lt 16 w (bitOr m s) h (or-lt 16 m s k l)) h
+    λ v _. rw (bit-and w (bitOr m s) v, bit-or m s v) (go (bit w v) (bit m v) (bit s v) (sym (bit-and w m v) ∙ ap (λ x. bit x v) e))
+  where
+    go : (x y z : Bool) → (x && y) ≡ x → (x && (y || z)) ≡ x
+    go true y z e = ap (λ b. b || z) e
+    go false y z e = refl
 
-  pub revise-kept : bitAnd (getD w x 0) v ≡ getD w x 0 → w ≡ reviseIn index rows universal x k w
+-- A revision that removes values, and one that removes none.
+module _ (index rows : List ℕ) (universal x k : ℕ) (w : List ℕ) (m : ℕ) (l : m ≡ bitAnd (getD w x 0) (leaves index rows universal x k (getD w k 0))) where
+  pub revise-cut : (q c : ℕ) (r : List ℕ) → ¬ (m ≡ getD w x 0) → q ≡ reasonIn w k → c ≡ causeOf universal x k q
+      → r ≡ putReason (set w x m) x (bitOr (reasonIn (set w x m) x) c) → r ≡ reviseIn index rows universal x k w
+  unfolding reviseIn lessened
+  revise-cut q c r d e f g = rw (← l, ne-eqb m (getD w x 0) d, ← e, ← f) g
+
+  pub revise-kept : m ≡ getD w x 0 → w ≡ reviseIn index rows universal x k w
   unfolding reviseIn
-  revise-kept e = rw (← l, eq-eqb (bitAnd (getD w x 0) v) (getD w x 0) e)
+  revise-kept e = rw (← l, eq-eqb m (getD w x 0) e)
 
 pub length-revise : (index rows : List ℕ) (universal x k : ℕ) (w : List ℕ) → length (reviseIn index rows universal x k w) ≡ length w
 unfolding reviseIn lessened

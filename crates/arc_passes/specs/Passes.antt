@@ -72,4 +72,4 @@ module _ (near index rows : List ℕ) (universal : ℕ) where
 
   -- Passes from the words w on: at first every variable has all its neighbours to look at.
   unfoldable pub removedIn : ℕ → List ℕ → List ℕ
-  removedIn n w = passesIn n (16 * n) everyone (record { dirty = everyone; words = w }) .words
+  removedIn n w = passesIn n (16 * n) everyone (record { dirty = 1; words = w }) .words

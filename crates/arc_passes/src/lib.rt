@@ -6,14 +6,17 @@ ghost use lib.Dec.{ltb};
 ghost use Rattle.mask.specs.Mask.{bit};
 ghost use Prim.Native.Nat.{_<_, _≤_};
 ghost use lib.ListN.{length};
-ghost use Rattle.arrays.specs.Arrays.{InRange};
+ghost use lib.Bits.{bitAnd};
+ghost use Rattle.arrays.specs.Arrays.{InRange, supportedIn};
 ghost use Rattle.arc_passes.specs.Passes.{leaves, causeOf, reviseIn, turnIn, lostAt, marked, passIn, removedIn};
 use arrays::add_reason;
 use arrays::common;
 use arrays::reason;
-use arrays::supported;
+use arrays::row;
 use mask::contains_32;
+use mask::lowest;
 use mask::lowest_32;
+use mask::rest_of;
 use mask::rest_of_32;
 use mask::single_32;
 
@@ -25,7 +28,32 @@ fn is_late(universal: u32, x: usize, k: usize) -> bool
     contains_32(universal, k) && x < k
 }
 
-// The values of x that the mask m of k leaves.
+// Of the values `wanted` of x those that go with some value of the mask m of k. It stops once none is missing.
+pub fn supported_of(
+    index: &[u16; 1024],
+    rows: &[u16; 15888],
+    k: usize,
+    m: u16,
+    x: usize,
+    wanted: u16,
+) -> u16
+    requires { ⌜ (k < 32) × (x < 32) × InRange (now index) ⌝ }
+    ensures { λ r. ⌜ r ≡ bitAnd wanted (supportedIn (now (index .entry)) (now (rows .entry)) k m x) ⌝ }
+{
+    let mut out: u16 = 0;
+    let mut left = m;
+    while left != 0 {
+        let a = lowest(left) as usize;
+        out = out | row(index, rows, k, a, x);
+        if wanted & out == wanted {
+            return wanted;
+        }
+        left = rest_of(left);
+    }
+    wanted & out
+}
+
+// Of the values `old` of x those that the mask m of k leaves.
 fn left_by(
     index: &[u16; 1024],
     rows: &[u16; 15888],
@@ -33,14 +61,15 @@ fn left_by(
     x: usize,
     k: usize,
     m: u16,
+    old: u16,
 ) -> u16
     requires { ⌜ (x < 32) × (k < 32) × InRange (now index) ⌝ }
-    ensures { λ r. ⌜ r ≡ leaves (now (index .entry)) (now (rows .entry)) universal x k m ⌝ }
+    ensures { λ r. ⌜ r ≡ bitAnd old (leaves (now (index .entry)) (now (rows .entry)) universal x k m) ⌝ }
 {
     if is_late(universal, x, k) {
-        common(index, rows, k, m, x)
+        old & common(index, rows, k, m, x)
     } else {
-        supported(index, rows, k, m, x)
+        supported_of(index, rows, k, m, x, old)
     }
 }
 
@@ -69,7 +98,7 @@ fn revise(
     ensures { λ _. ⌜ now (w .exit) ≡ reviseIn (now (index .entry)) (now (rows .entry)) universal x k (now (w .entry)) ⌝ }
 {
     let old = w[x];
-    let new = old & left_by(index, rows, universal, x, k, w[k]);
+    let new = left_by(index, rows, universal, x, k, w[k], old);
     if new != old {
         let c = cause(universal, x, k, reason(w, k));
         w[x] = new;
@@ -138,7 +167,7 @@ fn pass(
 }
 
 // Passes until no variable has lost values, in the first of which each looks at all its neighbours. There are never more
-// than 16 n: each but the last removes a value.
+// than 16 n: each but the last removes a value. A bit of n or above in dirty would stay, and no pass would be the last.
 pub fn remove_dead(
     near: &[u32; 32],
     index: &[u16; 1024],
@@ -152,7 +181,7 @@ pub fn remove_dead(
 {
     let mut left = 16 * n;
     let mut all: u32 = 4294967295;
-    let mut dirty: u32 = 4294967295;
+    let mut dirty: u32 = 1;
     while left > 0 && dirty != 0 {
         dirty = pass(near, index, rows, n, universal, all, dirty, w);
         all = 0;

@@ -3,14 +3,15 @@ use mathlib.Core.Path.{_≡_}
 use mathlib.Core.Bool.{Bool, true, false, not}
 use mathlib.Core.List.{List}
 use Prim.Native.Nat.{ℕ, _≤_, _<_}
-use lib.Dec.{T, ltb}
-use lib.Bits.{bitOr}
+use lib.Dec.{T, eqb, ltb}
+use lib.Bits.{bitAnd, bitOr}
 use lib.ListN.{getD}
 use borrow.Author.Tests.{lt-ltb, le-ltb, ltb-true}
 use Rattle.mask.specs.Range.{each, first}
 use Rattle.mask.specs.Mask.{bit}
 use Rattle.mask.proofs.Logic.{holds, and-out}
 use Rattle.mask.proofs.Range.{first-of}
+use Rattle.mask.proofs.Masks.{within-each}
 use Rattle.arrays.specs.Arrays.{supportedIn, commonIn}
 use Rattle.arrays.specs.Words.{reasonIn}
 use Rattle.arc_rule.specs.Loss.{emptiedIn, barsIn, barrier, stopped, loss, conflict}
@@ -21,9 +22,10 @@ module _ (index rows : List ℕ) (universal x k u v m : ℕ) (b c : Bool) (e : c
   unfolding barsIn
   bars-universal t q = rw (← e, t, ← q, p)
 
-  pub bars-later : c ≡ false → x < k → m ≡ supportedIn index rows k v x → not b ≡ barsIn index rows universal x k u v
-  unfolding barsIn
-  bars-later t l q = rw (← e, t, lt-ltb x k l, ← q, p)
+pub bars-later : (index rows : List ℕ) (universal x k u v m : ℕ) (c : Bool) → u < 65536 → c ≡ bit universal k → c ≡ false → x < k → m ≡ bitAnd u (supportedIn index rows k v x)
+    → not (eqb m u) ≡ barsIn index rows universal x k u v
+unfolding barsIn
+bars-later index rows universal x k u v m c h e t l q = rw (← e, t, lt-ltb x k l, ← within-each 16 u (supportedIn index rows k v x) h, ← q)
 
 pub bars-earlier : (index rows : List ℕ) (universal x k u v : ℕ) (c : Bool) → c ≡ bit universal k → c ≡ false → k ≤ x → ltb x k ≡ barsIn index rows universal x k u v
 unfolding barsIn

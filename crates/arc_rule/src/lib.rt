@@ -9,9 +9,9 @@ ghost use Rattle.arrays.specs.Arrays.{InRange};
 ghost use Rattle.arc_rule.specs.Loss.{emptiedIn, barsIn, barrier, stopped, loss, conflict};
 ghost use Rattle.arc_rule.specs.ArcRule.{ArcSteps};
 use arc_passes::remove_dead;
+use arc_passes::supported_of;
 use arrays::common;
 use arrays::reason;
-use arrays::supported;
 use mask::contains_32;
 use mask::lowest_32;
 use mask::rest_of_32;
@@ -62,7 +62,7 @@ fn bars(
     if contains_32(universal, k) {
         return !within(u, common(index, rows, k, v, x));
     }
-    x < k && !within(u, supported(index, rows, k, v, x))
+    x < k && supported_of(index, rows, k, v, x, u) != u
 }
 
 // The first variable of the mask m that bars a value of x, or 32.

@@ -10,7 +10,7 @@ use Rattle.arc_passes.proofs.remove_dead.Statement.{statement}
 use Rattle.arc_passes.proofs.remove_dead.Tie as tie
 
 abbrev Inv-loop : tie.InvT-loop
-Inv-loop near index rows n universal w₀ left₀ all₀ dirty₀ w left all dirty = (length w ≡ length w₀) × (passesIn near index rows universal n (16 * n) everyone (record { dirty = everyone; words = w₀ }) ≡ passesIn near index rows universal n left all (record { dirty = dirty; words = w }))
+Inv-loop near index rows n universal w₀ left₀ all₀ dirty₀ w left all dirty = (length w ≡ length w₀) × (passesIn near index rows universal n (16 * n) everyone (record { dirty = 1; words = w₀ }) ≡ passesIn near index rows universal n left all (record { dirty = dirty; words = w }))
 
 abbrev μ-loop : tie.MeasureT-loop
 μ-loop near index rows n universal w₀ left₀ all₀ dirty₀ w left all dirty = left

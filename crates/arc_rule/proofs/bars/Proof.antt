@@ -1,4 +1,5 @@
 use borrow.Author.Needs.{needs}
+use native.Mathlib.Omega.{arith}
 use Rattle.arc_rule.proofs.LossSteps.{bars-universal, bars-later, bars-earlier}
 use Rattle.arc_rule.proofs.bars.Statement.{statement}
 use Rattle.arc_rule.proofs.bars.Tie as tie
@@ -15,14 +16,11 @@ within-requires c κs = search needs
 returns : tie.Need-returns
 returns c = bars-universal _ _ _ _ _ _ _ _ _ _ (c .before .before .before .contains-32 .ensures) (c .within .ensures) (c .before .before .if1 .taken) (c .before .common .ensures)
 
-supported-requires : tie.Need-supported-requires
-supported-requires c κs = search needs
-
-within-requires-2 : tie.Need-within-requires-2
-within-requires-2 c κs = search needs
+supported-of-requires : tie.Need-supported-of-requires
+supported-of-requires c κs = search needs
 
 returns-2 : tie.Need-returns-2
-returns-2 c = bars-later _ _ _ _ _ _ _ _ _ _ (c .before .before .before .before .contains-32 .ensures) (c .within2 .ensures) (c .before .before .before .if1 .left) (c .before .before .if2 .taken) (c .before .supported .ensures)
+returns-2 c = bars-later _ _ _ _ _ _ _ _ _ (omega arith) (c .before .before .before .contains-32 .ensures) (c .before .before .if1 .left) (c .before .if2 .taken) (c .supported-of .ensures)
 
 returns-3 : tie.Need-returns-3
 returns-3 c = bars-earlier _ _ _ _ _ _ _ _ (c .before .before .contains-32 .ensures) (c .before .if1 .left) (c .if2 .left)
@@ -35,7 +33,6 @@ bars-spec =
     common-requires
     within-requires
     returns
-    supported-requires
-    within-requires-2
+    supported-of-requires
     returns-2
     returns-3)
