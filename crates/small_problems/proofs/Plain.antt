@@ -1,0 +1,79 @@
+-- What the entries tell of an accepted file, in terms of its problem and the plays that stand.
+use Prim.Native.Nat.{ℕ, _≤_}
+use mathlib.Core.Path.{_≡_, refl, ap, _∙_}
+use mathlib.Core.Bool.{true, cond}
+use mathlib.Core.List.{List, [], _∷_}
+use lib.ListN.{length}
+use borrow.Author.Tests.{le-leb}
+use Rattle.mask.proofs.Logic.{holds}
+use Rattle.refusal.specs.declared.Verdict.the-variants.{Fine}
+use Rattle.refusal.specs.Chain.{_then_, need}
+use Rattle.refusal.specs.Told.{Told, replied, refusedAt}
+use Rattle.rule_set.specs.RuleSet.{fullSet, isRuleSet}
+use Rattle.file_layout.specs.Layout.{nOf}
+use Rattle.file_records.specs.Records.{verdictOf}
+use Rattle.problem_file.specs.Reading.{headerOf}
+use Rattle.pair_lookup.specs.Lookup.{lookUp}
+use Rattle.game.specs.Problem.{Problem}
+use Rattle.game.specs.Calls.{Call, standing}
+use Rattle.game.specs.Winning.{verdict}
+use Rattle.tables.specs.FileProblem.{problemOf}
+use Rattle.rules.specs.Alone.{Bytes, readFirst, arcReply, arcList, pureReply, interchangeableReply, arcTold, arcLeft, pureTold, interchangeableTold}
+use Rattle.rules.proofs.ReadLaws.{read-fine}
+use Rattle.position.specs.Position.{fitsIn}
+use Rattle.session.specs.History.{reachedBy, listTold, listOpened}
+use Rattle.session.proofs.HistoryLaws.{reached-fits, reached-plays, reached-told}
+use Rattle.search_run.specs.Run.{roomNeeded}
+use Rattle.judging.specs.Tests.{positionTest, roomTest, judgeTest}
+use Rattle.judging.specs.Judging.{repliedFor, judgeReply, judgeTold}
+use Rattle.history.specs.Replay.{listMarked}
+use Rattle.history.proofs.Histories.{demand-3}
+use Rattle.small_problems.specs.Questions.{Question, size, reading, lookingUp, judging, marking, opening, calling, arc, arcLeaving, pureAt, interchangeableAt, answer}
+
+-- Each answer, after the calls cs.
+unfoldable pub plainly : List ℕ → Problem → List Call → Question → Told
+plainly f P cs size = replied (length f ∷ [])
+plainly f P cs reading = headerOf f
+plainly f P cs (lookingUp i j) = lookUp f i j
+plainly f P cs judging = replied (cond (verdict P (standing P cs)) 1 0 ∷ [])
+plainly f P cs marking = listMarked P (standing P cs)
+plainly f P cs opening = listOpened P (standing P cs)
+plainly f P cs (calling c) = listTold P (standing P cs) c
+plainly f P cs (arc l) = arcReply P l
+plainly f P cs (arcLeaving l) = replied (arcList P l)
+plainly f P cs (pureAt x l) = pureReply P l x
+plainly f P cs (interchangeableAt x l) = interchangeableReply P l x
+
+module _ (f : List ℕ) (bytes : Bytes f) (set words : ℕ) (fine : verdictOf f ≡ Fine) (known : set ≤ fullSet) (enough : roomNeeded (nOf f) ≤ words) where
+  abbrev P : Problem
+  P = problemOf f bytes fine
+
+  -- A call that reads the file first.
+  reads : (reply : Problem → Told) → readFirst f bytes refusedAt reply ≡ reply P
+  reads reply = read-fine f bytes refusedAt reply fine
+
+  room : roomNeeded (P .n) ≤ words
+  unfolding problemOf
+  room = enough
+
+  -- In a position that calls reach, judging has nothing to refuse.
+  judge-plain : (cs : List Call) → judgeTold f bytes (reachedBy f bytes cs) set words ≡ replied (cond (verdict P (standing P cs)) 1 0 ∷ [])
+  unfolding judgeTold judgeReply judgeTest positionTest roomTest isRuleSet repliedFor need _then_
+  judge-plain cs =
+      let fits : fitsIn (reachedBy f bytes cs) (P .n) (P .domain) ≡ true = holds (reached-fits f bytes fine cs) in
+      reads (λ Q. judgeReply Q (reachedBy f bytes cs) set words)
+      ∙ rw (le-leb set fullSet known, fits, le-leb (roomNeeded (P .n)) words room, reached-plays f bytes fine cs)
+
+  pub answer-plain : (cs : List Call) (q : Question) → answer f bytes set words (reachedBy f bytes cs) q ≡ plainly f P cs q
+  unfolding answer plainly arcTold arcLeft pureTold interchangeableTold
+  answer-plain cs size = refl
+  answer-plain cs reading = refl
+  answer-plain cs (lookingUp i j) = refl
+  answer-plain cs judging = judge-plain cs
+  answer-plain cs marking = demand-3 f bytes fine cs set words known room .0
+  answer-plain cs opening = demand-3 f bytes fine cs set words known room .1
+  answer-plain cs (calling c) = reached-told f bytes fine cs c
+  answer-plain cs (arc l) = reads (λ Q. arcReply Q l)
+  answer-plain cs (arcLeaving l) = ap replied (read-fine f bytes (λ e p. l) (λ Q. arcList Q l) fine)
+  answer-plain cs (pureAt x l) = reads (λ Q. pureReply Q l x)
+  answer-plain cs (interchangeableAt x l) = reads (λ Q. interchangeableReply Q l x)

@@ -1,0 +1,44 @@
+-- What can be asked of a file and a position, and what is told: by the very definitions of the entries' contracts.
+use Prim.Native.Nat.{ℕ}
+use mathlib.Core.List.{List, [], _∷_}
+use lib.ListN.{length}
+use Rattle.refusal.specs.Told.{Told, replied}
+use Rattle.problem_file.specs.Reading.{headerOf}
+use Rattle.pair_lookup.specs.Lookup.{lookUp}
+use Rattle.game.specs.Calls.{Call}
+use Rattle.rules.specs.Alone.{Bytes, arcTold, arcLeft, pureTold, interchangeableTold}
+use Rattle.position.specs.declared.Position.{Position}
+use Rattle.session.specs.Told.{openTold}
+use Rattle.session.specs.History.{callTold}
+use Rattle.judging.specs.Judging.{judgeTold}
+use Rattle.marking.specs.Marking.{markTold}
+
+pub data Question : Type 0 where
+  -- of the file: how many bytes it has; what reading it replies; where the rows of a pair stand
+  size : Question
+  reading : Question
+  lookingUp : ℕ → ℕ → Question
+  -- of the position: its verdict; the marks of its next variable; the open values; a further call
+  judging : Question
+  marking : Question
+  opening : Question
+  calling : Call → Question
+  -- of a lent list: what rule 1 replies and what it leaves; rules 4 and 5 at a variable
+  arc : List ℕ → Question
+  arcLeaving : List ℕ → Question
+  pureAt : ℕ → List ℕ → Question
+  interchangeableAt : ℕ → List ℕ → Question
+
+-- The file f and the position p, under the rule set of this number and with room for so many words.
+unfoldable pub answer : (f : List ℕ) → Bytes f → (set words : ℕ) → Position → Question → Told
+answer f bytes set words p size = replied (length f ∷ [])
+answer f bytes set words p reading = headerOf f
+answer f bytes set words p (lookingUp i j) = lookUp f i j
+answer f bytes set words p judging = judgeTold f bytes p set words
+answer f bytes set words p marking = markTold f bytes p set words
+answer f bytes set words p opening = openTold f bytes p
+answer f bytes set words p (calling c) = callTold f bytes p c
+answer f bytes set words p (arc l) = arcTold f bytes l
+answer f bytes set words p (arcLeaving l) = replied (arcLeft f bytes l)
+answer f bytes set words p (pureAt x l) = pureTold f bytes l x
+answer f bytes set words p (interchangeableAt x l) = interchangeableTold f bytes l x
