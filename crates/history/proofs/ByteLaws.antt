@@ -1,5 +1,5 @@
 -- Calls in bytes, one after another.
-use mathlib.Core.Path.{_≡_, sym, ap, _∙_}
+use mathlib.Core.Path.{_≡_, refl, sym, ap, _∙_}
 use mathlib.Core.List.{List, []}
 use Prim.Native.Nat.{ℕ, _+_, _≤_, _<_}
 use native.Mathlib.Numerals.{add-one}
@@ -27,9 +27,14 @@ module _ (f : List ℕ) (bytes : Bytes f) where
   unfoldable pub rest : List ℕ → ℕ → Position → Position
   rest calls i p = reachedFrom f bytes p (callsOf (drop i calls))
 
-  pub rest-start : (calls : List ℕ) (p : Position) → p ≡ shown [] → rest calls 0 p ≡ reachedBy f bytes (callsOf calls)
-  unfolding rest reachedBy
-  rest-start calls p e = ap (λ (p : Position). reachedFrom f bytes p (callsOf calls)) e
+  pub rest-start : (calls : List ℕ) (p : Position) → rest calls 0 p ≡ reachedFrom f bytes p (callsOf calls)
+  unfolding rest
+  rest-start calls p = refl
+
+  -- From the fresh position.
+  pub from-fresh : (calls : List ℕ) (p r : Position) → p ≡ shown [] → r ≡ reachedFrom f bytes p (callsOf calls) → r ≡ reachedBy f bytes (callsOf calls)
+  unfolding reachedBy
+  from-fresh calls p r e q = q ∙ ap (λ (p : Position). reachedFrom f bytes p (callsOf calls)) e
 
   pub rest-next : (calls : List ℕ) (i : ℕ) (p q : Position) → i < length calls → q ≡ step f bytes p (callOf (getD calls i 0)) → rest calls (i + 1) q ≡ rest calls i p
   unfolding rest reachedFrom callsOf

@@ -7,7 +7,7 @@ ghost use Rattle.refusal.specs.declared.Verdict.the-variants.{Fine};
 ghost use Rattle.file_records.specs.Records.{verdictOf};
 ghost use Rattle.rules.specs.Alone.{Bytes};
 ghost use Rattle.session.specs.Told.{toldOpened, openTold};
-ghost use Rattle.session.specs.History.{step, reachedBy};
+ghost use Rattle.session.specs.History.{step, reachedFrom, reachedBy};
 ghost use Rattle.marking.specs.Marking.{told, markTold, markLeft};
 ghost use Rattle.history.specs.Replay.{callOf, callsOf, Demand3};
 use marking::Marked;
@@ -38,11 +38,11 @@ fn called(f: &[u8], p: Position, call: u8) -> Position
     }
 }
 
-// The position that the calls reach from the fresh one.
-fn reached(f: &[u8], calls: &[u8]) -> Position
-    ensures { λ r. ⌜ ((bytes : Bytes (now (f .entry))) → r ≡ reachedBy (now (f .entry)) bytes (callsOf (now (calls .entry)))) ⌝ }
+// The position that the calls reach from another.
+fn reached(f: &[u8], start: Position, calls: &[u8]) -> Position
+    ensures { λ r. ⌜ ((bytes : Bytes (now (f .entry))) → r ≡ reachedFrom (now (f .entry)) bytes start (callsOf (now (calls .entry)))) ⌝ }
 {
-    let mut p = fresh();
+    let mut p = start;
     let mut i = 0;
     while i < calls.len() {
         p = called(f, p, calls[i]);
@@ -59,7 +59,8 @@ pub fn replay(f: &[u8], calls: &[u8], set: usize, room: &mut [u16]) -> Replayed
     ensures { λ r. ⌜ ((bytes : Bytes (now (f .entry))) → now (room .exit) ≡ markLeft (now (f .entry)) bytes (reachedBy (now (f .entry)) bytes (callsOf (now (calls .entry)))) set (now (room .entry))) ⌝ }
     ensures { λ r. ⌜ ((bytes : Bytes (now (f .entry))) (fine : verdictOf (now (f .entry)) ≡ Fine) → Demand3 (now (f .entry)) bytes fine (callsOf (now (calls .entry))) set (length (now (room .entry))) (told (r .marks)) (toldOpened (r .opened))) ⌝ }
 {
-    let p = reached(f, calls);
+    let start = fresh();
+    let p = reached(f, start, calls);
     let opened = open_values(f, p);
     let marks = mark(f, p, set, room);
     Replayed {

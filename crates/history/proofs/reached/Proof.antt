@@ -3,23 +3,20 @@ use mathlib.Core.Path.{_≡_, _∙_}
 use lib.ListN.{length}
 use borrow.Author.Needs.{needs}
 use Rattle.rules.specs.Alone.{Bytes}
-use Rattle.session.specs.History.{reachedBy}
+use Rattle.session.specs.History.{reachedFrom}
 use Rattle.history.specs.Replay.{callsOf}
 use Rattle.history.proofs.ByteLaws.{rest, rest-start, rest-next, rest-end}
 use Rattle.history.proofs.reached.Statement.{statement}
 use Rattle.history.proofs.reached.Tie as tie
 
 abbrev Inv-loop : tie.InvT-loop
-Inv-loop f calls p₀ i₀ p i = (i ≤ length calls) × ((bytes : Bytes f) → rest f bytes calls i p ≡ reachedBy f bytes (callsOf calls))
+Inv-loop f calls p₀ i₀ p i = (i ≤ length calls) × ((bytes : Bytes f) → rest f bytes calls i p ≡ reachedFrom f bytes p₀ (callsOf calls))
 
 abbrev μ-loop : tie.MeasureT-loop
 μ-loop f calls p₀ i₀ p i = length calls - i
 
-fresh-requires : tie.Need-fresh-requires Inv-loop μ-loop
-fresh-requires c κs = search needs
-
 loop-holds : tie.Need-loop-holds Inv-loop μ-loop
-loop-holds c = (search needs, λ bytes. rest-start _ bytes _ _ (c .fresh .ensures))
+loop-holds c = (search needs, λ bytes. rest-start _ bytes _ _)
 
 shared-slice-read-called : tie.Need-shared-slice-read-called Inv-loop μ-loop
 shared-slice-read-called c = search needs
@@ -45,7 +42,6 @@ reached-spec =
     (tie.spec
     Inv-loop
     μ-loop
-    fresh-requires
     loop-holds
     shared-slice-read-called
     called-requires

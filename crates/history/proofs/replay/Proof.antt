@@ -7,9 +7,13 @@ use Rattle.session.specs.Told.{toldOpened, openTold}
 use Rattle.session.specs.History.{reachedBy}
 use Rattle.marking.specs.Marking.{told, markTold, markLeft}
 use Rattle.history.specs.Replay.{callsOf}
+use Rattle.history.proofs.ByteLaws.{from-fresh}
 use Rattle.history.proofs.Histories.{demand-3}
 use Rattle.history.proofs.replay.Statement.{statement}
 use Rattle.history.proofs.replay.Tie as tie
+
+fresh-requires : tie.Need-fresh-requires
+fresh-requires c κs = search needs
 
 reached-requires : tie.Need-reached-requires
 reached-requires c κs = search needs
@@ -24,26 +28,29 @@ same-length : tie.Need-same-length
 same-length c = search needs
 
 -- What the entries reply, over the calls.
-marked : (c : tie.After-mark) → let a = c .before .before .before .before .before .before .before .args in (bytes : Bytes (a .f .now)) →
-    told (c .mark .result) ≡ markTold (a .f .now) bytes (reachedBy (a .f .now) bytes (callsOf (a .calls .now))) (a .set) (length (a .room .now))
-marked c bytes = let a = c .before .before .before .before .before .before .before .args in
-    c .mark .ensures .0 bytes ∙ ap (λ (p : Position). markTold (a .f .now) bytes p (a .set) (length (a .room .now))) (c .before .before .before .reached .ensures bytes)
+over : (c : tie.After-reached) → let a = c .before .before .before .before .before .args in (bytes : Bytes (a .f .now)) → c .reached .result ≡ reachedBy (a .f .now) bytes (callsOf (a .calls .now))
+over c bytes = from-fresh _ bytes _ _ _ (c .before .fresh .ensures) (c .reached .ensures bytes)
 
-opened : (c : tie.After-open-values) → let a = c .before .before .before .before .before .args in (bytes : Bytes (a .f .now)) →
+marked : (c : tie.After-mark) → let a = c .before .before .before .before .before .before .before .before .args in (bytes : Bytes (a .f .now)) →
+    told (c .mark .result) ≡ markTold (a .f .now) bytes (reachedBy (a .f .now) bytes (callsOf (a .calls .now))) (a .set) (length (a .room .now))
+marked c bytes = let a = c .before .before .before .before .before .before .before .before .args in
+    c .mark .ensures .0 bytes ∙ ap (λ (p : Position). markTold (a .f .now) bytes p (a .set) (length (a .room .now))) (over (c .before .before .before) bytes)
+
+opened : (c : tie.After-open-values) → let a = c .before .before .before .before .before .before .args in (bytes : Bytes (a .f .now)) →
     toldOpened (c .open-values .result) ≡ openTold (a .f .now) bytes (reachedBy (a .f .now) bytes (callsOf (a .calls .now)))
-opened c bytes = let a = c .before .before .before .before .before .args in
-    c .open-values .ensures .0 bytes ∙ ap (openTold (a .f .now) bytes) (c .before .reached .ensures bytes)
+opened c bytes = let a = c .before .before .before .before .before .before .args in
+    c .open-values .ensures .0 bytes ∙ ap (openTold (a .f .now) bytes) (over (c .before) bytes)
 
 returns : tie.Need-returns
 returns c =
     let m = c .before .before in
     let o = c .before .before .before .before in
-    let a = c .before .before .before .before .before .before .before .before .before .args in (
+    let a = o .before .before .before .before .before .before .args in (
       marked m,
       (
         opened o,
         (
-          λ bytes. m .mark .ensures .1 bytes ∙ ap (λ (p : Position). markLeft (a .f .now) bytes p (a .set) (a .room .now)) (c .before .before .before .before .before .reached .ensures bytes),
+          λ bytes. m .mark .ensures .1 bytes ∙ ap (λ (p : Position). markLeft (a .f .now) bytes p (a .set) (a .room .now)) (over (o .before) bytes),
           λ bytes fine s r. let d = demand-3 (a .f .now) bytes fine (callsOf (a .calls .now)) (a .set) (length (a .room .now)) s r in (marked m bytes ∙ d .0, opened o bytes ∙ d .1),
         ),
       ),
@@ -51,4 +58,4 @@ returns c =
 
 pub replay-spec : {M : Type 1} → statement M
 replay-spec =
-    tie.close (tie.spec reached-requires open-values-requires mark-requires same-length returns)
+    tie.close (tie.spec fresh-requires reached-requires open-values-requires mark-requires same-length returns)
