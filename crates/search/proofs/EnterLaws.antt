@@ -40,6 +40,7 @@ module _ (P : Problem) (n universal : ℕ) (near index rows : List ℕ) (st : St
         kept = λ k h. ap (λ x. getD x k 0) (R .words) ∙ holding-behind n (st .most) w _ _ k h;
         loss = sym t ∙ R .loss;
         set = λ _. R .set t;
+        lost-list = λ _. ap (listIn n) (R .words) ∙ listIn-holding n (st .most) w b _ _ (R .masks);
         list = λ f. absurd (no f);
         why = λ f. absurd (no f);
         tried = λ f. absurd (no f);
@@ -67,6 +68,7 @@ module _ (P : Problem) (n universal : ℕ) (near index rows : List ℕ) (st : St
         kept = λ k u. ap (λ y. getD y k 0) (s .holds) ∙ holding-behind n (st .most) v _ _ k u ∙ ap (λ y. getD y k 0) (R .words) ∙ holding-behind n (st .most) w _ _ k u;
         loss = sym t ∙ R .loss;
         set = λ u. absurd (subst (λ b. T (not b)) u tt);
+        lost-list = λ u. absurd (subst (λ b. T (not b)) u tt);
         list = λ _. list';
         why = λ _. ap (whyIn n) (s .holds) ∙ whyIn-holding n (st .most) v (omega arith) _ (whyIn n v) (length-whyIn n v) ∙ whys;
         tried = λ _. el;

@@ -15,12 +15,14 @@ use Rattle.skip_rule.specs.Skip.{LeafSmall}
 use Rattle.turn_rules.specs.RuledTurn.{Plays}
 
 -- After the rules of the turn of variable d: a loss with its set; or the words hold the list and the reasons that the turn tries values of,
--- `left` is the mask of these values, and `narrowed` says whether rules 4 and 5 changed it. Words behind the reasons stay.
+-- `left` is the mask of these values, and `narrowed` says whether rules 4 and 5 changed it. Words behind the reasons stay. At a loss the words
+-- hold the list of the rule that found it.
 pub record Enters (P : Problem) (n S c d : ℕ) (p w w' : List ℕ) (lost : Bool) (conflict left : ℕ) (narrowed : Bool) : Type 0 where
   pub size : length w' ≡ length w
   pub kept : (k : ℕ) → 96 ≤ k → getD w' k 0 ≡ getD w k 0
   pub loss : lost ≡ explained P S c p (listIn n w) (whyIn n w) .loss
   pub set : lost ≡ true → conflict ≡ explained P S c p (listIn n w) (whyIn n w) .set
+  pub lost-list : lost ≡ true → listIn n w' ≡ explained P S c p (listIn n w) (whyIn n w) .list
   pub list : lost ≡ false → listIn n w' ≡ narrowNext P S d (explained P S c p (listIn n w) (whyIn n w) .list) .list
   pub why : lost ≡ false → whyIn n w' ≡ explained P S c p (listIn n w) (whyIn n w) .why
   pub tried : lost ≡ false → left ≡ getD w' d 0

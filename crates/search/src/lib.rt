@@ -75,8 +75,8 @@ pub struct Entered {
     pub narrowed: bool,
 }
 
-// The rules of a turn with variable d left, and its domain narrowed.
-fn enter(
+// The rules of a turn with variable d left, and its domain narrowed. Public for the first turn of a run.
+pub fn enter(
     near: &[u32; 32],
     index: &[u16; 1024],
     rows: &[u16; 15888],

@@ -7,6 +7,7 @@ pub use room::clear;
 pub use room::clear_leaf;
 pub use room::hand_down;
 pub use room::take_leaf;
+pub use room::zero_words;
 pub use sets::handed;
 pub use sets::near_reasons;
 pub use sets::start_set;

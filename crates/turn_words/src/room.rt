@@ -7,7 +7,7 @@ use mask::single;
 use mask::single_32;
 
 // The words from `start` on and below `end` become zero.
-fn zero_words(start: usize, end: usize, room: &mut [u16])
+pub fn zero_words(start: usize, end: usize, room: &mut [u16])
     requires { ⌜ (start ≤ end) × (end ≤ length (now room)) ⌝ }
     ensures { λ _. ⌜ now (room .exit) ≡ zeroed start end (now (room .entry)) ⌝ }
 {

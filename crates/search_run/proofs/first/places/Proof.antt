@@ -1,0 +1,63 @@
+use Prim.Native.Nat.{ℕ, _+_, _-_, _≤_}
+use mathlib.Core.Path.{_≡_, refl, sym}
+use native.Mathlib.Omega.{arith}
+use lib.ListN.{getD, length, replicate, length-set, length-replicate}
+use Rattle.turn_words.specs.TurnRoom.{withRun}
+use Rattle.turn_words.proofs.RoomLaws.{run-none}
+use Rattle.search_run.proofs.FirstLaws.{run-more, run-places}
+use borrow.Author.Needs.{needs}
+use Rattle.search_run.proofs.first.places.Statement.{statement}
+use Rattle.search_run.proofs.first.places.Tie as tie
+
+abbrev Inv-loop : tie.InvT-loop
+Inv-loop start count w out₀ k₀ out k = (k ≤ count) × (length out ≡ 32) × (out ≡ withRun 0 k (λ j. getD w (start + j) 0) (replicate 32 0))
+
+abbrev μ-loop : tie.MeasureT-loop
+μ-loop start count w out₀ k₀ out k = count - k
+
+loop-holds : tie.Need-loop-holds Inv-loop μ-loop
+loop-holds c = (search needs, refl, sym (run-none 0 _ _))
+
+add-out : tie.Need-add-out Inv-loop μ-loop
+add-out c = search needs
+
+mul-out : tie.Need-mul-out Inv-loop μ-loop
+mul-out c = search needs
+
+shared-slice-read-out : tie.Need-shared-slice-read-out Inv-loop μ-loop
+shared-slice-read-out c = search needs
+
+mul-out-2 : tie.Need-mul-out-2 Inv-loop μ-loop
+mul-out-2 c = search needs
+
+array-write-out : tie.Need-array-write-out Inv-loop μ-loop
+array-write-out c = search needs
+
+add-k : tie.Need-add-k Inv-loop μ-loop
+add-k c = search needs
+
+loop-less : tie.Need-loop-less Inv-loop μ-loop
+loop-less c = search needs
+
+loop-again : tie.Need-loop-again Inv-loop μ-loop
+loop-again c = let i = c .before .before .loop .inv in (search needs, simp length-set (i .1), run-more _ _ _ _ _ (omega (arith, length-replicate {A = ℕ} 32 0)) (i .2) refl)
+
+returns : tie.Need-returns Inv-loop μ-loop
+returns c = let i = c .before .loop .inv in run-places _ _ _ _ _ (omega arith) (omega arith) (i .2)
+
+pub places-spec : {M : Type 1} → statement M
+places-spec =
+    tie.close
+    (tie.spec
+    Inv-loop
+    μ-loop
+    loop-holds
+    add-out
+    mul-out
+    shared-slice-read-out
+    mul-out-2
+    array-write-out
+    add-k
+    loop-less
+    loop-again
+    returns)

@@ -1,0 +1,101 @@
+// One inner run: the search from a position, with the list that the rules of its first turn reach. Every public function is
+// for the crates above.
+ghost use mathlib.Core.Path.{_≡_};
+ghost use Prim.Native.Nat.{_≤_};
+ghost use lib.Dec.{T};
+ghost use lib.ListN.{length};
+ghost use Rattle.arrays.specs.Arrays.{InRange};
+ghost use Rattle.position.specs.Position.{fitsIn};
+ghost use Rattle.turn_words.specs.TurnRoom.{zeroed};
+ghost use Rattle.search.specs.TurnReply.{roomOf};
+ghost use Rattle.search_run.specs.FirstTurn.{ZeroBelow};
+ghost use Rattle.search_run.specs.Run.{roomNeeded, Posed, Runs};
+
+mod first;
+mod stub;
+
+use first::first_reached;
+use first::first_words;
+use first::leaf_of;
+use position::Position;
+use stub::turn;
+use turn_words::clear_leaf;
+use turn_words::zero_words;
+
+// What a search from a position comes to: what the rules of the first turn reached, and the outcome.
+pub struct Ran {
+    pub lost: bool,
+    pub list: [u16; 32],
+    pub won: bool,
+    pub conflict: u32,
+    pub leaf: [u16; 32],
+}
+
+// How many words a search of n variables has.
+pub fn room_needed(n: usize) -> usize
+    requires { ⌜ n ≤ 32 ⌝ }
+    ensures { λ r. ⌜ r ≡ roomNeeded n ⌝ }
+{
+    128 * (n + 1)
+}
+
+// The search from the position p in the room of its first turn, whose words are zero before and afterwards.
+fn run_in(
+    near: &[u32; 32],
+    index: &[u16; 1024],
+    rows: &[u16; 15888],
+    n: usize,
+    universal: u32,
+    domains: &[u16; 32],
+    set: u8,
+    p: Position,
+    room: &mut [u16],
+) -> Ran
+    requires { ⌜ (n ≤ 32) × T (fitsIn p n (now domains)) × (roomOf n (p .plays) ≤ length (now room)) × InRange (now index) × ZeroBelow (roomOf n (p .plays)) (now room) × Posed n universal (now near) (now index) (now rows) (now domains) ⌝ }
+    ensures { λ r. ⌜ Runs n universal (now (near .entry)) (now (index .entry)) (now (rows .entry)) (now (domains .entry)) set p r × (now (room .exit) ≡ now (room .entry)) ⌝ }
+{
+    let d = p.plays;
+    first_words(p, n, domains, room);
+    let r = first_reached(near, index, rows, n, universal, set, d, room);
+    let o = turn(near, index, rows, n, universal, set, 0, d, room);
+    let leaf = leaf_of(n, room);
+    clear_leaf(room);
+    let list = r.list;
+    Ran {
+        lost: r.lost,
+        list: list,
+        won: o.won,
+        conflict: o.conflict,
+        leaf: leaf,
+    }
+}
+
+// The search from the position p. Whatever the first words of the room are, they are zero afterwards.
+pub fn run(
+    near: &[u32; 32],
+    index: &[u16; 1024],
+    rows: &[u16; 15888],
+    n: usize,
+    universal: u32,
+    domains: &[u16; 32],
+    set: u8,
+    p: Position,
+    room: &mut [u16],
+) -> Ran
+    requires { ⌜ (n ≤ 32) × T (fitsIn p n (now domains)) × (roomNeeded n ≤ length (now room)) × InRange (now index) × Posed n universal (now near) (now index) (now rows) (now domains) ⌝ }
+    ensures { λ r. ⌜ Runs n universal (now (near .entry)) (now (index .entry)) (now (rows .entry)) (now (domains .entry)) set p r × (now (room .exit) ≡ zeroed 0 (roomNeeded n) (now (room .entry))) ⌝ }
+{
+    zero_words(0, room_needed(n), room);
+    let d = p.plays;
+    run_in(
+        near,
+        index,
+        rows,
+        n,
+        universal,
+        domains,
+        set,
+        p,
+        &mut room[128 * d..],
+    )
+}
