@@ -12,13 +12,12 @@ ghost use Rattle.search_run.specs.FirstTurn.{ZeroBelow};
 ghost use Rattle.search_run.specs.Run.{roomNeeded, Posed, Runs};
 
 mod first;
-mod stub;
 
 use first::first_reached;
 use first::first_words;
 use first::leaf_of;
 use position::Position;
-use stub::turn;
+use search::turn;
 use turn_words::clear_leaf;
 use turn_words::zero_words;
 
