@@ -5,13 +5,13 @@ ghost use Prim.Native.Nat.{_≤_, _<_};
 mod rooms;
 mod searches;
 
+use position::Position;
 pub use rooms::Answer;
 pub use rooms::judges;
 pub use rooms::refused;
 pub use rooms::refused_at;
 pub use rooms::verdict;
 pub use searches::searched;
-use position::Position;
 use vectors::byte;
 
 // The position with these plays whose first k places stand in s from p on.

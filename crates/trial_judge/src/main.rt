@@ -43,10 +43,7 @@ fn one_game(s: &[u8], t: Tally) -> Tally {
     let plays = byte(s, p);
     let q = p + 1 + plays;
     let position = position_at(s, p + 1, plays, plays);
-    moved(
-        under_all_sets(f, position, n, byte(s, q), t),
-        q + 3 + 3 * n,
-    )
+    moved(under_all_sets(f, position, n, byte(s, q), t), q + 3 + 3 * n)
 }
 
 fn all_games(s: &[u8]) -> Tally {
@@ -77,7 +74,11 @@ fn answers(s: &[u8], f: &[u8], p: Position, c: usize) -> bool
 {
     let number = byte(s, c + 3);
     let a = answer(number, word(s, c + 4), byte(s, c + 7));
-    let used = if number == 0 { 128 * (byte(f, 2) + 1) } else { 0 };
+    let used = if number == 0 {
+        128 * (byte(f, 2) + 1)
+    } else {
+        0
+    };
     judges(f, p, byte(s, c), word(s, c + 1), a, used)
 }
 
@@ -92,7 +93,10 @@ fn one_call(s: &[u8], t: Tally) -> Tally {
     if byte(s, p + 33) != 4 {
         return next;
     }
-    counted(next, answers(s, f, position_at(s, p + 1, byte(s, p), 32), c))
+    counted(
+        next,
+        answers(s, f, position_at(s, p + 1, byte(s, p), 32), c),
+    )
 }
 
 // The calls that stand from `start` on, behind their number.
