@@ -1,4 +1,13 @@
-// Judging a position: the search's verdict. `judge` is open to callers.
+// Judging a position: whether the game is won from it. `judge` is open to callers.
+ghost use mathlib.Core.Path.{_≡_};
+ghost use Prim.Native.Nat.{_≤_};
+ghost use lib.ListN.{length};
+ghost use Rattle.arrays.specs.Arrays.{InRange};
+ghost use Rattle.rules.specs.Alone.{Bytes};
+ghost use Rattle.search_run.specs.Run.{Posed};
+ghost use Rattle.judging.specs.Judging.{told, judgeTold, judgeLeft};
+ghost use Rattle.judging.specs.Inner.{Judges};
+
 mod tests;
 
 use position::Position;
@@ -27,7 +36,10 @@ fn judge_in(
     p: Position,
     set: usize,
     room: &mut [u16],
-) -> Judged {
+) -> Judged
+    requires { ⌜ (n ≤ 32) × InRange (now index) × Posed n universal (now near) (now index) (now rows) (now domains) ⌝ }
+    ensures { λ r. ⌜ Judges n universal (now (near .entry)) (now (index .entry)) (now (rows .entry)) (now (domains .entry)) p set (now (room .entry)) (now (room .exit)) r ⌝ }
+{
     let v = judge_test(n, domains, p, set, room.len());
     match v {
         Verdict::Refused(number, _) => Judged::Refused(number),
@@ -41,8 +53,12 @@ fn judge_in(
     }
 }
 
-// Whether the position is won, under the rule set of this number. The room's first 128 * (n + 1) words are zero afterwards.
-pub fn judge(f: &[u8], p: Position, set: usize, room: &mut [u16]) -> Judged {
+// Whether the position is won, by a search under the rule set of this number. A finished call leaves the words of the room
+// that the search needs zero and the others as they were; a refused one leaves all.
+pub fn judge(f: &[u8], p: Position, set: usize, room: &mut [u16]) -> Judged
+    ensures { λ r. ⌜ ((bytes : Bytes (now (f .entry))) → told r ≡ judgeTold (now (f .entry)) bytes p set (length (now (room .entry)))) ⌝ }
+    ensures { λ r. ⌜ ((bytes : Bytes (now (f .entry))) → now (room .exit) ≡ judgeLeft (now (f .entry)) bytes p set (now (room .entry))) ⌝ }
+{
     let mut near = [0u32; 32];
     let mut index = [0u16; 1024];
     let mut rows = [0u16; 15888];

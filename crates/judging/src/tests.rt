@@ -1,4 +1,7 @@
-// What is tested of a rule set's number, a position and a room.
+// What is tested of a rule set's number, a position and a room before a search. For the entries that search.
+ghost use mathlib.Core.Path.{_≡_};
+ghost use Prim.Native.Nat.{_≤_};
+ghost use Rattle.judging.specs.Tests.{positionTest, roomTest, judgeTest};
 use position::Position;
 use position::fits;
 use refusal::Verdict;
@@ -7,22 +10,28 @@ use refusal::needed;
 use search_run::room_needed;
 
 // 8 and 23, in this order.
-pub fn position_test(n: usize, domains: &[u16; 32], p: Position, set: usize) -> Verdict {
-    first(needed(set <= 127, 8, 0), needed(fits(p, n, domains), 23, 0))
+pub fn position_test(n: usize, domains: &[u16; 32], p: Position, set: usize) -> Verdict
+    ensures { λ r. ⌜ r ≡ positionTest n (now (domains .entry)) p set ⌝ }
+{
+    let s = needed(set <= 127, 8, 0);
+    let t = needed(fits(p, n, domains), 23, 0);
+    first(s, t)
 }
 
 // 12.
-pub fn room_test(n: usize, length: usize) -> Verdict {
-    needed(room_needed(n) <= length, 12, 0)
+pub fn room_test(n: usize, words: usize) -> Verdict
+    requires { ⌜ n ≤ 32 ⌝ }
+    ensures { λ r. ⌜ r ≡ roomTest n words ⌝ }
+{
+    needed(room_needed(n) <= words, 12, 0)
 }
 
 // The tests of judging: 8, 23, 12.
-pub fn judge_test(
-    n: usize,
-    domains: &[u16; 32],
-    p: Position,
-    set: usize,
-    length: usize,
-) -> Verdict {
-    first(position_test(n, domains, p, set), room_test(n, length))
+pub fn judge_test(n: usize, domains: &[u16; 32], p: Position, set: usize, words: usize) -> Verdict
+    requires { ⌜ n ≤ 32 ⌝ }
+    ensures { λ r. ⌜ r ≡ judgeTest n (now (domains .entry)) p set words ⌝ }
+{
+    let s = position_test(n, domains, p, set);
+    let t = room_test(n, words);
+    first(s, t)
 }

@@ -2,3 +2,5 @@
 pub mod FirstLaws
 -- What the rules of the first turn reach.
 pub mod ReachLaws
+-- A run's outcome, and its room.
+pub mod RunLaws

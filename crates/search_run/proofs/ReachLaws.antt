@@ -23,6 +23,9 @@ use Rattle.arrays.proofs.WordLaws.{listIn-holding}
 use Rattle.turn_rules.specs.RuledTurn.{Replied}
 use Rattle.search.specs.TurnReply.{TurnIn}
 use Rattle.search.specs.TurnSteps.{Enters}
+use Rattle.search.proofs.StandLaws.{plays-in}
+use Rattle.search_run.specs.FirstTurn.{filled, turnCopy, RuledFirst}
+use Rattle.search_run.proofs.FirstLaws.{copy-list, copy-plays, copy-turn}
 
 module _ (P : Problem) (S c : ℕ) (p l R : List ℕ) (on : At P c p l R) where
   open Problem P using (n)
@@ -70,3 +73,14 @@ module _ (P : Problem) (n universal : ℕ) (near index rows : List ℕ) (st : St
         r .loss ∙ same-loss,
         ap (listIn n) (r .words) ∙ listIn-holding n (st .most) w b _ _ (r .masks) ∙ sym (played-list P S c p (listIn n w) (whyIn n w) at (omega arith)),
       )
+
+-- Over a copy of the words: what the rules leave there, in 32 places.
+pub copy-reaches : (n : ℕ) (m : n ≤ 32) (w x : List ℕ) → x ≡ turnCopy 96 w → (P : Problem) (universal : ℕ) (near index rows : List ℕ) → States P n universal near index rows
+    → (S d : ℕ) (p : List ℕ) → d ≤ n → ((k : ℕ) → getD w k 0 < 65536) → TurnIn P n S 0 d p w → (x' : List ℕ) (lost : Bool) (list : List ℕ) → RuledFirst n universal near index rows S d x x' lost
+    → list ≡ filled (listIn n x') → (lost ≡ reached P S 0 p (listIn n w) .loss) × (list ≡ filled (reached P S 0 p (listIn n w) .list))
+copy-reaches n m w x e P universal near index rows st S d p h small t x' lost list f g =
+    let q = f P st p (copy-plays n m w x e P S 0 d p h (plays-in P n universal near index rows st S 0 d p w small t)) (copy-turn n m w x e P S 0 d p t) in
+    let l = copy-list n m w x e in (
+      q .0 ∙ ap (λ (l : List ℕ). reached P S 0 p l .loss) l,
+      g ∙ ap filled (q .1 ∙ ap (λ (l : List ℕ). reached P S 0 p l .list) l),
+    )

@@ -1,51 +1,39 @@
+use Rattle.search_run.proofs.RunLaws.{part-start, part-size, part-zero, room-back}
+use Rattle.position.proofs.Fitting.{fits-plays}
+use native.Mathlib.Omega.{arith}
 use borrow.Author.Needs.{needs}
 use Rattle.search_run.proofs.run.Statement.{statement}
 use Rattle.search_run.proofs.run.Tie as tie
-use Rattle.search_run.proofs.run.Reads as reads
-use Rattle.search_run.proofs.run.Lts as lts
-use Rattle.search_run.proofs.room_needed.Reads as room-needed-reads
-use Rattle.search_run.proofs.run_in.Reads as run-in-reads
-use Rattle.turn_words.proofs.zero_words.Reads as zero-words-reads
 
--- src/lib.rt:88:19
 room-needed-requires : tie.Need-room-needed-requires
 room-needed-requires c κs = search needs
 
--- src/lib.rt:88:5
 zero-words-requires : tie.Need-zero-words-requires
 zero-words-requires c κs = search needs
 
--- src/lib.rt:99:19
 mul-run-in : tie.Need-mul-run-in
-mul-run-in c = ?
+mul-run-in c = let p = c .before .before .before .before .before .before .pre in let h = fits-plays _ _ _ (p .1) in omega (arith, h, p .0)
 
--- src/lib.rt:99:9
 mul-run-in-2 : tie.Need-mul-run-in-2
-mul-run-in-2 c = ?
+mul-run-in-2 c = let p = c .before .before .before .before .before .before .pre in let h = fits-plays _ _ _ (p .1) in omega (arith, h, p .0)
 
--- src/lib.rt:99:9
 sub-run-in : tie.Need-sub-run-in
-sub-run-in c = ?
+sub-run-in c = let p = c .before .before .before .before .before .before .pre in let h = fits-plays _ _ _ (p .1) in part-start _ _ _ _ _ h (c .before .before .before .before .room-needed .ensures) (p .2) (c .before .before .zero-words .ensures)
 
--- src/lib.rt:99:9
 part-run-in-start : tie.Need-part-run-in-start
-part-run-in-start c = ?
+part-run-in-start c = let p = c .before .before .before .before .before .before .pre in let h = fits-plays _ _ _ (p .1) in part-start _ _ _ _ _ h (c .before .before .before .before .room-needed .ensures) (p .2) (c .before .before .zero-words .ensures)
 
--- src/lib.rt:99:9
 part-run-in-end : tie.Need-part-run-in-end
 part-run-in-end c = search needs
 
--- src/lib.rt:90:5
 run-in-requires : tie.Need-run-in-requires
-run-in-requires c κs = ?
+run-in-requires c κs = let p = c .before .before .before .before .before .before .before .pre in let h = fits-plays _ _ _ (p .1) in (p .0, p .1, part-size _ _ _ _ _ h (c .before .before .before .before .before .room-needed .ensures) (p .2) (c .before .before .before .zero-words .ensures), p .3, part-zero _ _ _ _ _ h (c .before .before .before .before .before .room-needed .ensures) (p .2) (c .before .before .before .zero-words .ensures), p .4)
 
--- src/lib.rt:74:1
 same-length : tie.Need-same-length
 same-length c = search needs
 
--- src/lib.rt:74:1
 returns : tie.Need-returns
-returns c = ?
+returns c = let p = c .before .before .before .before .before .before .before .before .before .before .pre in let h = fits-plays _ _ _ (p .1) in (c .before .before .run-in .ensures .0, room-back _ _ _ _ _ h (c .before .before .before .before .before .before .before .before .room-needed .ensures) (p .2) (c .before .before .before .before .before .before .zero-words .ensures) _ (c .before .before .run-in .ensures .1))
 
 pub run-spec : {M : Type 1} → statement M
 run-spec =

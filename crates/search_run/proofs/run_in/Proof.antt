@@ -1,41 +1,40 @@
+use Rattle.search_run.proofs.RunLaws.{first-stands, first-blank, run-finds, room-kept}
+use Rattle.position.proofs.Fitting.{fits-plays}
+use lib.ListN.{length}
+use native.Mathlib.Omega.{arith}
+use mathlib.Core.Path.{_≡_}
 use borrow.Author.Needs.{needs}
 use Rattle.search_run.proofs.run_in.Statement.{statement}
 use Rattle.search_run.proofs.run_in.Tie as tie
-use Rattle.search_run.proofs.run_in.Reads as reads
-use Rattle.search_run.proofs.run_in.Lts as lts
-use Rattle.search_run.proofs.first.first_reached.Reads as first-reached-reads
-use Rattle.search_run.proofs.first.first_words.Reads as first-words-reads
-use Rattle.search_run.proofs.first.leaf_of.Reads as leaf-of-reads
-use Rattle.search_run.proofs.stub.turn.Reads as turn-reads
-use Rattle.turn_words.proofs.clear_leaf.Reads as clear-leaf-reads
 
--- src/lib.rt:58:5
+-- The places of the position.
+long : (s : tie.Start) → length (s .args .p .values) ≡ 32
+long s = search needs
+
 first-words-requires : tie.Need-first-words-requires
-first-words-requires c κs = ?
+first-words-requires c κs = let s = c .before .before in let p = s .pre in let h = fits-plays _ _ _ (p .1) in (p .0, omega (arith, p .2, h), p .1, λ k u. p .4 k (omega (arith, h)))
 
--- src/lib.rt:59:9
 first-reached-requires : tie.Need-first-reached-requires
-first-reached-requires c κs = ?
+first-reached-requires c κs = let s = c .before .before .before .before .before .before in let p = s .pre in let h = fits-plays _ _ _ (p .1) in let f = c .before .before .before .first-words .ensures in (p .0, h, omega (arith, p .2, h, f .size), p .3, first-stands _ _ _ _ _ _ _ _ (p .0) (long s) (p .1) _ _ f (p .5))
 
--- src/lib.rt:60:9
 turn-requires : tie.Need-turn-requires
-turn-requires c κs = ?
+turn-requires c κs = let s = c .before .before .before .before .before .before .before .before in let p = s .pre in let h = fits-plays _ _ _ (p .1) in let f = c .before .before .before .before .before .first-words .ensures in (p .0, h, omega (arith, p .2, f .size), p .3, first-blank _ _ _ _ _ f (p .4), first-stands _ _ _ _ _ _ _ _ (p .0) (long s) (p .1) _ _ f (p .5))
 
--- src/lib.rt:61:9
 leaf-of-requires : tie.Need-leaf-of-requires
-leaf-of-requires c κs = ?
+leaf-of-requires c κs = let s = c .before .before .before .before .before .before .before .before .before .before .before .before in let p = s .pre in let h = fits-plays _ _ _ (p .1) in (p .0, omega (arith, p .2, h, c .before .before .before .before .before .before .before .before .before .first-words .ensures .size, c .before .before .before .turn .ensures .1 .size))
 
--- src/lib.rt:62:5
 clear-leaf-requires : tie.Need-clear-leaf-requires
-clear-leaf-requires c κs = ?
+clear-leaf-requires c κs = let s = c .before .before .before .before .before .before .before .before .before .before .before .before .before .before in let p = s .pre in let h = fits-plays _ _ _ (p .1) in omega (arith, p .2, h, c .before .before .before .before .before .before .before .before .before .before .before .first-words .ensures .size, c .before .before .before .before .before .turn .ensures .1 .size)
 
--- src/lib.rt:43:1
 same-length : tie.Need-same-length
 same-length c = search needs
 
--- src/lib.rt:43:1
 returns : tie.Need-returns
-returns c = ?
+returns c = let s = c .before .before .before .before .before .before .before .before .before .before .before .before .before .before .before .before .before .before in let p = s .pre in let h = fits-plays _ _ _ (p .1) in let f = c .before .before .before .before .before .before .before .before .before .before .before .before .before .before .before .first-words .ensures in
+    let t = c .before .before .before .before .before .before .before .before .before .turn .ensures in (
+      (λ P o. run-finds _ _ _ _ _ _ _ _ (p .0) (long s) (p .1) _ _ f _ _ (c .before .before .before .before .before .before .before .before .before .before .before .first-reached .ensures) t (c .before .before .before .before .before .leaf-of .ensures) h P o),
+      room-kept _ _ _ _ _ f (p .4) _ _ _ (t .1) (c .before .before .before .clear-leaf .ensures) (p .2) h (p .0),
+    )
 
 pub run-in-spec : {M : Type 1} → statement M
 run-in-spec =

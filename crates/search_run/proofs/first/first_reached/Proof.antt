@@ -1,27 +1,23 @@
+use Rattle.search_run.proofs.ReachLaws.{copy-reaches}
+use Rattle.search_run.proofs.FirstLaws.{copy-nonzero}
+use Rattle.search.proofs.StandLaws.{stated, nonzero}
+use native.Mathlib.Omega.{arith}
 use borrow.Author.Needs.{needs}
 use Rattle.search_run.proofs.first.first_reached.Statement.{statement}
 use Rattle.search_run.proofs.first.first_reached.Tie as tie
-use Rattle.search_run.proofs.first.first_reached.Reads as reads
-use Rattle.search_run.proofs.first.first_reached.Lts as lts
-use Rattle.search_run.proofs.first.first_rules.Reads as first-rules-reads
-use Rattle.search_run.proofs.first.list_of.Reads as list-of-reads
-use Rattle.search_run.proofs.first.turn_copy.Reads as turn-copy-reads
 
--- src/first.rt:118:17
 turn-copy-requires : tie.Need-turn-copy-requires
 turn-copy-requires c κs = search needs
 
--- src/first.rt:119:9
 first-rules-requires : tie.Need-first-rules-requires
-first-rules-requires c κs = ?
+first-rules-requires c κs = let p = c .before .before .before .pre in (p .0, p .1, p .3, copy-nonzero _ (p .0) _ _ (c .before .turn-copy .ensures) (nonzero _ _ _ _ _ _ _ _ _ (p .4)), stated _ _ _ _ _ _ _ _ _ (p .4))
 
--- src/first.rt:120:9
 list-of-requires : tie.Need-list-of-requires
 list-of-requires c κs = search needs
 
--- src/first.rt:105:1
 returns : tie.Need-returns
-returns c = ?
+returns c = let p = c .before .before .before .before .before .before .pre in λ P st q t.
+    copy-reaches _ (p .0) _ _ (c .before .before .before .before .turn-copy .ensures) P _ _ _ _ st _ _ q (p .1) (λ k. omega (arith, c .before .before .before .before .before .shared-slice-known .given k)) t _ _ _ (c .before .before .first-rules .ensures) (c .list-of .ensures)
 
 pub first-reached-spec : {M : Type 1} → statement M
 first-reached-spec =

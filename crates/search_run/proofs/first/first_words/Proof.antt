@@ -1,26 +1,21 @@
+use Rattle.search_run.proofs.FirstLaws.{first-are}
+use Rattle.position.proofs.Fitting.{fits-plays}
+use native.Mathlib.Omega.{arith}
 use borrow.Author.Needs.{needs}
 use Rattle.search_run.proofs.first.first_words.Statement.{statement}
 use Rattle.search_run.proofs.first.first_words.Tie as tie
-use Rattle.search_run.proofs.first.first_words.Reads as reads
-use Rattle.search_run.proofs.first.first_words.Lts as lts
-use Rattle.position.proofs.narrowed_domains.Reads as narrowed-domains-reads
-use Rattle.search_run.proofs.first.own_reasons.Reads as own-reasons-reads
 
--- src/first.rt:44:5
 narrowed-domains-requires : tie.Need-narrowed-domains-requires
 narrowed-domains-requires c κs = search needs
 
--- src/first.rt:45:5
 own-reasons-requires : tie.Need-own-reasons-requires
-own-reasons-requires c κs = ?
+own-reasons-requires c κs = let p = c .before .before .before .before .before .before .pre in (omega (arith, fits-plays _ _ _ (p .2), p .0), search needs)
 
--- src/first.rt:39:1
 same-length : tie.Need-same-length
 same-length c = search needs
 
--- src/first.rt:39:1
 returns : tie.Need-returns
-returns c = ?
+returns c = let p = c .before .before .before .before .before .before .before .before .before .pre in first-are _ _ _ _ _ _ (p .0) (p .1) (fits-plays _ _ _ (p .2)) (p .3) (c .before .before .before .before .before .before .narrowed-domains .ensures) (search needs) (c .before .before .own-reasons .ensures)
 
 pub first-words-spec : {M : Type 1} → statement M
 first-words-spec =

@@ -1,17 +1,15 @@
+use Rattle.search_run.proofs.FirstLaws.{words-leaf}
+use Rattle.search_run.specs.FirstTurn.{filled}
+use mathlib.Core.Path.{ap, _∙_}
 use borrow.Author.Needs.{needs}
 use Rattle.search_run.proofs.first.leaf_of.Statement.{statement}
 use Rattle.search_run.proofs.first.leaf_of.Tie as tie
-use Rattle.search_run.proofs.first.leaf_of.Reads as reads
-use Rattle.search_run.proofs.first.leaf_of.Lts as lts
-use Rattle.search_run.proofs.first.places.Reads as places-reads
 
--- src/first.rt:132:5
 places-requires : tie.Need-places-requires
 places-requires c κs = search needs
 
--- src/first.rt:128:1
 returns : tie.Need-returns
-returns c = ?
+returns c = c .places .ensures ∙ ap filled (words-leaf _ _)
 
 pub leaf-of-spec : {M : Type 1} → statement M
 leaf-of-spec = tie.close (tie.spec places-requires returns)

@@ -30,13 +30,13 @@ loop-less : tie.Need-loop-less Inv-loop μ-loop
 loop-less c = search needs
 
 loop-again : tie.Need-loop-again Inv-loop μ-loop
-loop-again c = let i = c .before .before .before .loop .inv in let e = own-more _ _ _ _ _ (i .2) (c .before .before .single-32 .ensures) (c .before .put-reason .ensures) in (search needs, ap length e ∙ length-own _ _, e)
+loop-again c = let i = c .before .before .before .before .before .before .loop .inv in let e = own-more _ _ _ _ _ (i .2) (c .before .before .before .single-32 .ensures) (c .before .before .put-reason .ensures) in (search needs, ap length e ∙ length-own _ _, e)
 
 same-length : tie.Need-same-length Inv-loop μ-loop
 same-length c = c .before .loop .inv .1
 
 returns : tie.Need-returns Inv-loop μ-loop
-returns c = let e : c .before .loop .k ≡ c .before .before .args .d = omega arith in c .before .loop .inv .2 ∙ ap (λ k. ownReasons k (c .before .before .args .w .now)) e
+returns c = let e : c .before .loop .k ≡ c .before .before .before .args .d = omega arith in c .before .loop .inv .2 ∙ ap (λ k. ownReasons k (c .before .before .before .args .w .now)) e
 
 pub own-reasons-spec : {M : Type 1} → statement M
 own-reasons-spec =

@@ -36,7 +36,7 @@ loop-less : tie.Need-loop-less Inv-loop μ-loop
 loop-less c = search needs
 
 loop-again : tie.Need-loop-again Inv-loop μ-loop
-loop-again c = let i = c .loop .inv in (search needs, simp length-set (i .1), copy-more _ _ _ _ (omega arith) (i .2) refl)
+loop-again c = let i = c .before .before .loop .inv in (search needs, simp length-set (i .1), copy-more _ _ _ _ (omega arith) (i .2) refl)
 
 returns : tie.Need-returns Inv-loop μ-loop
 returns c = let i = c .before .loop .inv in let e : c .before .loop .k ≡ 96 = omega arith in i .2 ∙ ap (λ k. turnCopy k (c .before .before .args .w .now)) e

@@ -1,0 +1,53 @@
+use Rattle.judging.proofs.JudgeLaws.{poses-of, ready-of}
+use Rattle.judging.specs.Judging.{told, judgeTold, judgeLeft}
+use Rattle.rules.proofs.ReadLaws.{read-refused, read-fine}
+use Rattle.problem_file.proofs.Accepted.{header-shows, header-refuses}
+use Rattle.problem_file.specs.Reading.{told as toldHeader}
+use native.Mathlib.Omega.{arith}
+use mathlib.Core.Path.{sym, ap, _∙_}
+use borrow.Author.Needs.{needs}
+use Rattle.judging.proofs.judge.Statement.{statement}
+use Rattle.judging.proofs.judge.Tie as tie
+
+decode-requires : tie.Need-decode-requires
+decode-requires c κs = search needs
+
+enum-known-h : tie.Need-enum-known-h
+enum-known-h c = search needs
+
+enum-known-h-2 : tie.Need-enum-known-h-2
+enum-known-h-2 c = search needs
+
+cast-judge-in : tie.Need-cast-judge-in
+cast-judge-in c = search needs
+
+judge-in-requires : tie.Need-judge-in-requires
+judge-in-requires c κs = ready-of _ _ _ _ _ _ _ _ _ _ _ _ (header-shows _ _ _ _ _ (ap toldHeader (sym (c .before .before .before .before .before .before .h2 .given .1)) ∙ c .before .before .before .before .before .before .before .before .before .decode .ensures .0 .0)) (c .before .before .before .before .before .before .before .before .before .decode .ensures .1) (c .before .before .before .before .before .before .before .before .before .decode .ensures .0 .1) (λ k. omega (arith, c .before .before .before .before .before .before .before .before .before .before .before .before .before .before .shared-slice-known .given k))
+
+returns : tie.Need-returns
+unfolding told judgeTold judgeLeft
+returns c = let q = header-refuses _ _ _ (ap toldHeader (sym (c .before .h .given .1)) ∙ c .before .before .before .before .decode .ensures .0 .0) in (λ bytes. sym (read-refused _ bytes _ _ _ _ q), λ bytes. sym (read-refused _ bytes _ _ _ _ q))
+
+same-length : tie.Need-same-length
+same-length c = search needs
+
+returns-2 : tie.Need-returns-2
+unfolding judgeTold judgeLeft
+returns-2 c = let s = header-shows _ _ _ _ _ (ap toldHeader (sym (c .before .before .before .before .before .before .before .before .before .h2 .given .1)) ∙ c .before .before .before .before .before .before .before .before .before .before .before .before .decode .ensures .0 .0) in
+    let o = poses-of _ _ _ _ _ _ _ _ _ _ _ _ s (c .before .before .before .before .before .before .before .before .before .before .before .before .decode .ensures .1) (c .before .before .before .before .before .before .before .before .before .before .before .before .decode .ensures .0 .1) in (
+      λ bytes. c .before .before .judge-in .ensures _ (o bytes) .0 ∙ sym (read-fine _ bytes _ _ (s .fine)),
+      λ bytes. c .before .before .judge-in .ensures _ (o bytes) .1 ∙ sym (read-fine _ bytes _ _ (s .fine)),
+    )
+
+pub judge-spec : {M : Type 1} → statement M
+judge-spec =
+    tie.close
+    (tie.spec
+    decode-requires
+    enum-known-h
+    enum-known-h-2
+    cast-judge-in
+    judge-in-requires
+    returns
+    same-length
+    returns-2)
