@@ -3,29 +3,28 @@ use mathlib.Core.Path.{_≡_, refl, sym, ap, _∙_}
 use mathlib.Core.Bool.{Bool, true, false, cond}
 use mathlib.Core.List.{List, [], _∷_}
 use Prim.Native.Nat.{ℕ, _≤_}
-use native.Mathlib.Omega.{arith}
 use lib.Dec.{T}
-use lib.ListN.{getD, length, take}
+use lib.ListN.{length, take}
 use Rattle.refusal.specs.declared.Verdict.{Verdict}
 use Rattle.refusal.specs.declared.Verdict.the-variants.{Fine}
 use Rattle.refusal.specs.declared.Verdict.the-variants.{Refused as Not}
-use Rattle.refusal.specs.Told.{Told, replied, refused}
+use Rattle.refusal.specs.Told.{replied, refused}
 use Rattle.file_layout.specs.declared.Rules.{Rules}
 use Rattle.problem_file.specs.Reading.{domainsOf}
 use Rattle.problem_file.proofs.Accepted.{Shows}
 use Rattle.game.specs.Problem.{Problem}
 use Rattle.game.specs.Position.{legal}
 use Rattle.game.specs.Winning.{verdict}
-use Rattle.game.specs.Search.{is-solved, solved, failed, searchFrom}
+use Rattle.game.specs.Search.{is-solved, solved, failed}
 use Rattle.theory.proofs.Theorems.{search-answers}
 use Rattle.tables.specs.FileProblem.{problemOf}
 use Rattle.tables.specs.Decoded.{Decodes}
-use Rattle.rules.specs.Alone.{Bytes, listFor}
-use Rattle.rules.proofs.ReadLaws.{holds-of, fits-of}
+use Rattle.rules.specs.Alone.{Bytes}
+use Rattle.rules.proofs.ReadLaws.{read-fine, holds-of, fits-of}
 use Rattle.rules.proofs.ReplyLaws.{list-refused, list-left}
 use Rattle.arrays.specs.Arrays.{InRange}
 use Rattle.position.specs.declared.Position.{Position}
-use Rattle.position.specs.Position.{playsOf, fitsIn}
+use Rattle.position.specs.Position.{playsOf}
 use Rattle.position.proofs.Fitting.{fits-legal}
 use Rattle.turn_words.specs.TurnRoom.{zeroed}
 use Rattle.search_run.specs.declared.Ran.{Ran}
@@ -33,7 +32,7 @@ use Rattle.search_run.specs.Run.{roomNeeded, Poses, Posed, Finds, Runs}
 use Rattle.judging.specs.declared.Judged.{Judged}
 use Rattle.judging.specs.declared.Judged.the-variants.{Won, Lost, Refused}
 use Rattle.judging.specs.Tests.{judgeTest}
-use Rattle.judging.specs.Judging.{told, repliedFor, judgeReply, judgeRoom}
+use Rattle.judging.specs.Judging.{told, repliedFor, judgeReply, judgeRoom, judgeTold, judgeLeft}
 use Rattle.judging.specs.Inner.{Judges}
 use Rattle.judging.proofs.TestLaws.{test-fine, test-same}
 
@@ -78,7 +77,7 @@ module _ (n universal : ℕ) (near index rows masks : List ℕ) (p : Position) (
   unfolding judgeReply judgeRoom
   judges-ran S r w' b z m long f e t = λ P o.
       let s = tested ∙ test-same P n masks (o .states .size) (o .domain) p set (length w) in
-      let g = fits-legal p n masks (test-fine n masks p set (length w) (sym tested ∙ z) .1) m long P (o .states .size) (o .domain) in (
+      let g = fits-legal p n masks (test-fine n masks p set (length w) v tested z .1) m long P (o .states .size) (o .domain) in (
         t ∙ reply-told v _ _ _ z s (ap (λ (b : Bool). cond b 1 0 ∷ []) (won-is P n S p r (f P o) g)),
         list-left v _ w' _ w z s (e ∙ ap (λ (n : ℕ). zeroed 0 (roomNeeded n) w) (sym (o .states .size))),
       )
@@ -97,3 +96,11 @@ module _ (f near₀ index₀ rows₀ near index rows D : List ℕ) (n m : ℕ) (
   ready-of bytes =
       let q = fits-of f near₀ index₀ rows₀ near index rows n m rules u s d in
       (q .0, q .1, record { problem = problemOf f bytes (s .fine); poses = poses-of bytes })
+
+  -- So the arrays' reply is the file's.
+  pub judged-file : (p : Position) (set : ℕ) (w w' : List ℕ) (r : Judged) → Judges n u near index rows D p set w w' r
+      → (bytes : Bytes f) → (told r ≡ judgeTold f bytes p set (length w)) × (w' ≡ judgeLeft f bytes p set w)
+  unfolding judgeTold judgeLeft
+  judged-file p set w w' r j bytes =
+      let q = j (problemOf f bytes (s .fine)) (poses-of bytes) in
+      (q .0 ∙ sym (read-fine f bytes _ _ (s .fine)), q .1 ∙ sym (read-fine f bytes _ _ (s .fine)))

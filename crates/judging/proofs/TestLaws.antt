@@ -1,20 +1,21 @@
 -- The tests before a search.
-use mathlib.Core.Path.{_≡_, sym, ap, ap₂, subst, _∙_}
-use mathlib.Core.Bool.{Bool, true, _&&_}
+use mathlib.Core.Path.{_≡_, sym, ap₂, subst, _∙_}
+use mathlib.Core.Bool.{Bool, true}
 use mathlib.Core.List.{List}
-use Prim.Native.Nat.{ℕ, _≤_, _<_}
+use Prim.Native.Nat.{ℕ, _≤_}
 use native.Mathlib.Omega.{arith}
 use lib.Dec.{T, leb}
-use lib.ListN.{getD, length, take}
+use lib.ListN.{take}
 use lib.Seq.{getD-take}
 use borrow.Author.Tests.{le-leb, leb-true}
 use Rattle.mask.specs.Range.{each}
 use Rattle.mask.proofs.Logic.{same, true-holds, and-in, by-lt}
 use Rattle.mask.proofs.Range.{each-in}
+use Rattle.refusal.specs.declared.Verdict.{Verdict}
 use Rattle.refusal.specs.declared.Verdict.the-variants.{Fine}
 use Rattle.refusal.specs.Chain.{_then_, need}
 use Rattle.refusal.proofs.Chain.{then-fine, need-fine}
-use Rattle.rule_set.specs.RuleSet.{isRuleSet}
+use Rattle.rule_set.specs.RuleSet.{fullSet, isRuleSet}
 use Rattle.game.specs.Problem.{Problem}
 use Rattle.position.specs.declared.Position.{Position}
 use Rattle.position.specs.Position.{fitsAt, fitsIn}
@@ -22,13 +23,14 @@ use Rattle.position.proofs.Fitting.{place-unplayed, fits-plays, fits-at}
 use Rattle.search_run.specs.Run.{roomNeeded}
 use Rattle.judging.specs.Tests.{positionTest, roomTest, judgeTest}
 
--- What fine tests say.
-pub test-fine : (n : ℕ) (masks : List ℕ) (p : Position) (set words : ℕ) → judgeTest n masks p set words ≡ Fine → (set ≤ 127) × T (fitsIn p n masks) × (roomNeeded n ≤ words)
+-- What fine tests say, v being the verdict.
+pub test-fine : (n : ℕ) (masks : List ℕ) (p : Position) (set words : ℕ) (v : Verdict) → v ≡ judgeTest n masks p set words → v ≡ Fine
+    → (set ≤ fullSet) × T (fitsIn p n masks) × (roomNeeded n ≤ words)
 unfolding judgeTest positionTest roomTest isRuleSet
-test-fine n masks p set words e =
-    let a = then-fine _ _ e in
+test-fine n masks p set words v t z =
+    let a = then-fine _ _ (sym t ∙ z) in
     let b = then-fine _ _ (a .0) in
-    (leb-true set 127 (need-fine _ _ _ (b .0)), true-holds (need-fine _ _ _ (b .1)), leb-true (roomNeeded n) words (need-fine _ _ _ (a .1)))
+    (leb-true set fullSet (need-fine _ _ _ (b .0)), true-holds (need-fine _ _ _ (b .1)), leb-true (roomNeeded n) words (need-fine _ _ _ (a .1)))
 
 -- Masks from n on are not looked at.
 at-same : (p : Position) (n : ℕ) (masks : List ℕ) → p .plays ≤ n → (i : ℕ) → fitsAt p (take n masks) i ≡ fitsAt p masks i

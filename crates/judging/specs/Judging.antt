@@ -30,7 +30,8 @@ unfoldable pub repliedFor : Verdict → List ℕ → Told
 repliedFor Fine values = replied values
 repliedFor (Not e p) values = refused e
 
--- Over a problem P: the verdict of the game, under every set; "the room is left zero" where a search ran, and a refused call leaves it as it was.
+-- Over a problem P: the verdict of the game, under every set. "After a finished call these words are zero and any beyond are unchanged"; "A refused call
+-- leaves position, list, room and buffer with their old contents."
 module _ (P : Problem) (p : Position) (set : ℕ) where
   open Problem P using (n, domain)
 

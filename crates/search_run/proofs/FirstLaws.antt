@@ -1,6 +1,6 @@
 -- The words of a run's first turn, and copies of words.
 use mathlib.Core.Path.{_≡_, refl, sym, ap, ap₂, subst, _∙_}
-use mathlib.Core.Bool.{Bool, true, false, cond}
+use mathlib.Core.Bool.{cond}
 use mathlib.Core.List.{List}
 use mathlib.Core.Logic.{_⊎_, inl, inr, ⊎-elim}
 use Prim.Native.Nat.{ℕ, zero, suc, _+_, _*_, _/_, _%_, _^_, _≤_, _<_}
@@ -18,9 +18,8 @@ use Rattle.game.specs.Turn.{firstList}
 use Rattle.game.specs.Reasons.{firstReasons}
 use Rattle.theory.proofs.Lists.{length-listOf, getD-listOf}
 use Rattle.theory.proofs.SearchNotions.{TurnOf, first}
-use Rattle.arrays.specs.Arrays.{States}
 use Rattle.arrays.specs.Words.{listIn, whyIn, leafIn, reasonIn, putReason}
-use Rattle.arrays.proofs.WordLaws.{length-listIn, getD-listIn, length-leafIn, getD-leafIn, length-putReason}
+use Rattle.arrays.proofs.WordLaws.{length-putReason}
 use Rattle.forward_rule.proofs.StepLaws.{listOf-same}
 use Rattle.forward_rule.specs.Replies.{Nonzero}
 use Rattle.position.specs.declared.Position.{Position}
@@ -29,7 +28,6 @@ use Rattle.position.proofs.Fitting.{length-plays, fits-legal}
 use Rattle.position.proofs.Narrowing.{written-list, written-other}
 use Rattle.turn_rules.specs.RuledTurn.{Plays}
 use Rattle.turn_words.specs.TurnRoom.{withRun}
-use Rattle.turn_words.specs.TurnSets.{ReasonsBelow}
 use Rattle.turn_words.proofs.RoomLaws.{length-run, run-at, run-other, run-none, run-next}
 use Rattle.turn_words.proofs.ReasonBounds.{Below, below-in, below-out, first-below}
 use Rattle.search.specs.TurnReply.{TurnIn}

@@ -1,21 +1,18 @@
 -- What the rules of a turn reach, also in a loss: the list of the rules with reasons is that of the plain rules.
-use mathlib.Core.Path.{_≡_, refl, sym, ap, subst, _∙_}
+use mathlib.Core.Path.{_≡_, refl, sym, ap, _∙_}
 use mathlib.Core.Bool.{Bool, true, false, cond}
 use mathlib.Core.List.{List}
 use Prim.Native.Nat.{ℕ, _≤_, _<_}
 use native.Mathlib.Omega.{arith}
-use lib.Dec.{T}
 use lib.ListN.{getD, length}
 use Rattle.mask.proofs.Logic.{by-lt}
 use Rattle.game.specs.Problem.{Problem}
-use Rattle.game.specs.Rule.{Ruled}
 use Rattle.game.specs.Turn.{reached}
 use Rattle.game.specs.Reasons.{explained}
 use Rattle.game.specs.Search.{narrowNext}
 use Rattle.theory.proofs.Theorems as theorems
 use Rattle.theory.proofs.Plain.{ruled, reached-plain, reached-end}
 use Rattle.theory.proofs.Search.{F, foe, foe-in}
-use Rattle.theory.proofs.SearchNotions.{TurnOf}
 use Rattle.theory.proofs.Turns.{At, turn-at}
 use Rattle.arrays.specs.Arrays.{States}
 use Rattle.arrays.specs.Words.{listIn, whyIn}
@@ -34,7 +31,7 @@ module _ (P : Problem) (S c : ℕ) (p l R : List ℕ) (on : At P c p l R) where
   played-list : length p ≡ n → reached P S c p l .list ≡ explained P S c p l R .list
   played-list h = ap {B = List ℕ} (λ r. r .list) (reached-end P (F P) (foe P) (foe-in P) S c p l R (on .checked) h (on .entry .ready))
 
-  -- A rule found a loss: "at a loss as the rule that found it left the list".
+  -- A rule found a loss, and left the list so.
   lost-list : explained P S c p l R .loss ≡ true → reached P S c p l .list ≡ explained P S c p l R .list
   lost-list e = by-lt (length p) n
       (λ h. let q : reached P S c p l ≡ ruled (explained P S c p l R) =

@@ -1,9 +1,9 @@
 -- A run's outcome, and its room.
-use mathlib.Core.Path.{_≡_, refl, sym, ap, ap₂, subst, _∙_}
+use mathlib.Core.Path.{_≡_, refl, sym, ap, ap₂, _∙_}
 use mathlib.Core.Bool.{Bool, true, false, cond}
 use mathlib.Core.List.{List, []}
-use mathlib.Core.Logic.{_⊎_, inl, inr, ⊎-elim}
-use Prim.Native.Nat.{ℕ, _+_, _-_, _*_, _≤_, _<_, min}
+use mathlib.Core.Logic.{inl, inr}
+use Prim.Native.Nat.{ℕ, _+_, _-_, _*_, _≤_, _<_}
 use native.Mathlib.Omega.{arith}
 use lib.Dec.{T}
 use lib.ListN.{getD, length, take, drop, length-take, length-drop, List·getD-eq-default}
@@ -15,16 +15,16 @@ use Rattle.game.specs.Problem.{Problem}
 use Rattle.game.specs.Lists.{listOf}
 use Rattle.game.specs.Turn.{firstList, reached}
 use Rattle.game.specs.Reasons.{firstReasons}
-use Rattle.game.specs.Search.{Verdict, solved, failed, search, searchFrom}
+use Rattle.game.specs.Search.{solved, failed, search, searchFrom}
 use Rattle.theory.proofs.Lists.{length-listOf, getD-listOf}
-use Rattle.arrays.specs.Words.{listIn, whyIn, leafIn}
+use Rattle.arrays.specs.Words.{leafIn}
 use Rattle.arrays.proofs.WordLaws.{length-leafIn, getD-leafIn}
 use Rattle.forward_rule.proofs.StepLaws.{listOf-same}
 use Rattle.position.specs.declared.Position.{Position}
 use Rattle.position.specs.Position.{playsOf, fitsIn}
 use Rattle.turn_words.specs.TurnRoom.{zeroed, leafCleared}
 use Rattle.turn_words.proofs.RoomLaws.{length-zeroed, length-leafCleared, leafCleared-at, leafCleared-other, run-at}
-use Rattle.search.specs.TurnReply.{replyIn, roomOf, TurnIn, Stands, Blank, Leaves, TurnReplies}
+use Rattle.search.specs.TurnReply.{replyIn, roomOf, Stands, Blank, Leaves, TurnReplies}
 use Rattle.search_run.specs.declared.Ran.{Ran}
 use Rattle.search_run.specs.FirstTurn.{ZeroBelow, filled, FirstWords, FirstReached}
 use Rattle.search_run.specs.Run.{roomNeeded, Poses, Posed, leafShown, Finds}
@@ -94,7 +94,8 @@ module _ (p : Position) (n : ℕ) (masks w x : List ℕ) (f : FirstWords p n mas
   pub first-blank : Blank (roomOf n (p .plays)) x
   first-blank k a b = f .behind k a ∙ z k b
 
-  pub room-kept : (y v : List ℕ) (won : Bool) → Leaves n (roomOf n (p .plays)) won x y → v ≡ leafCleared y → roomOf n (p .plays) ≤ length w → p .plays ≤ n → n ≤ 32 → v ≡ w
+  pub room-kept : (y v : List ℕ) (won : Bool) → Leaves n (roomOf n (p .plays)) won x y → v ≡ zeroed 96 128 y → roomOf n (p .plays) ≤ length w → p .plays ≤ n → n ≤ 32 → v ≡ w
+  unfolding leafCleared
   room-kept y v won t e b h m =
       let s = t .size in
       let g = f .size in

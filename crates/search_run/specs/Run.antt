@@ -13,7 +13,7 @@ use Rattle.position.specs.Position.{playsOf}
 use Rattle.search_run.specs.declared.Ran.{Ran}
 use Rattle.search_run.specs.FirstTurn.{filled}
 
--- How many words a search of n variables has: 128 for each turn.
+-- "A judgement or marking takes 128·(n+1) words of 16 bits": 128 for each turn.
 abbrev pub roomNeeded : ℕ → ℕ
 roomNeeded n = 128 * (n + 1)
 
@@ -32,8 +32,8 @@ unfoldable pub leafShown : Verdict → List ℕ
 leafShown (solved q) = filled q
 leafShown (failed S) = filled []
 
--- What the run r under S from the position p finds in P: whether the rules of the first turn find a loss, and the list that they reach, "at a loss as the
--- rule that found it left the list"; the verdict of the search, with its leaf or its conflict set; the leaf, with zeros elsewhere.
+-- What the run r under S from the position p finds in P: whether the rules of the first turn find a loss, and the list that they reach, at a loss as
+-- the rule that found it left the list; the verdict of the search, with its leaf or its conflict set; the leaf, with zeros elsewhere.
 pub record Finds (P : Problem) (n S : ℕ) (p : Position) (r : Ran) : Type 0 where
   pub loss : r .lost ≡ reached P S 0 (playsOf p) (firstList P (playsOf p)) .loss
   pub list : r .list ≡ filled (reached P S 0 (playsOf p) (firstList P (playsOf p)) .list)

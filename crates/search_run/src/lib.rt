@@ -18,7 +18,6 @@ use first::first_words;
 use first::leaf_of;
 use position::Position;
 use search::turn;
-use turn_words::clear_leaf;
 use turn_words::zero_words;
 
 // What a search from a position comes to: what the rules of the first turn reached, and the outcome.
@@ -58,7 +57,7 @@ fn run_in(
     let r = first_reached(near, index, rows, n, universal, set, d, room);
     let o = turn(near, index, rows, n, universal, set, 0, d, room);
     let leaf = leaf_of(n, room);
-    clear_leaf(room);
+    zero_words(96, 128, room);
     let list = r.list;
     Ran {
         lost: r.lost,

@@ -1,11 +1,11 @@
-use Rattle.judging.proofs.JudgeLaws.{poses-of, ready-of}
+use borrow.Author.Needs.{needs}
+use mathlib.Core.Path.{sym, ap, _∙_}
+use native.Mathlib.Omega.{arith}
+use Rattle.judging.proofs.JudgeLaws.{ready-of, judged-file}
 use Rattle.judging.specs.Judging.{told, judgeTold, judgeLeft}
-use Rattle.rules.proofs.ReadLaws.{read-refused, read-fine}
 use Rattle.problem_file.proofs.Accepted.{header-shows, header-refuses}
 use Rattle.problem_file.specs.Reading.{told as toldHeader}
-use native.Mathlib.Omega.{arith}
-use mathlib.Core.Path.{sym, ap, _∙_}
-use borrow.Author.Needs.{needs}
+use Rattle.rules.proofs.ReadLaws.{read-refused}
 use Rattle.judging.proofs.judge.Statement.{statement}
 use Rattle.judging.proofs.judge.Tie as tie
 
@@ -32,12 +32,7 @@ same-length : tie.Need-same-length
 same-length c = search needs
 
 returns-2 : tie.Need-returns-2
-unfolding judgeTold judgeLeft
-returns-2 c = let s = header-shows _ _ _ _ _ (ap toldHeader (sym (c .before .before .before .before .before .before .before .before .before .h2 .given .1)) ∙ c .before .before .before .before .before .before .before .before .before .before .before .before .decode .ensures .0 .0) in
-    let o = poses-of _ _ _ _ _ _ _ _ _ _ _ _ s (c .before .before .before .before .before .before .before .before .before .before .before .before .decode .ensures .1) (c .before .before .before .before .before .before .before .before .before .before .before .before .decode .ensures .0 .1) in (
-      λ bytes. c .before .before .judge-in .ensures _ (o bytes) .0 ∙ sym (read-fine _ bytes _ _ (s .fine)),
-      λ bytes. c .before .before .judge-in .ensures _ (o bytes) .1 ∙ sym (read-fine _ bytes _ _ (s .fine)),
-    )
+returns-2 c = let j = judged-file _ _ _ _ _ _ _ _ _ _ _ _ (header-shows _ _ _ _ _ (ap toldHeader (sym (c .before .before .before .before .before .before .before .before .before .h2 .given .1)) ∙ c .before .before .before .before .before .before .before .before .before .before .before .before .decode .ensures .0 .0)) (c .before .before .before .before .before .before .before .before .before .before .before .before .decode .ensures .1) (c .before .before .before .before .before .before .before .before .before .before .before .before .decode .ensures .0 .1) _ _ _ _ _ (c .before .before .judge-in .ensures) in (λ bytes. j bytes .0, λ bytes. j bytes .1)
 
 pub judge-spec : {M : Type 1} → statement M
 judge-spec =

@@ -1,9 +1,9 @@
+use borrow.Author.Needs.{needs}
+use lib.ListN.{length}
+use mathlib.Core.Path.{_≡_}
+use native.Mathlib.Omega.{arith}
 use Rattle.judging.proofs.JudgeLaws.{judges-refused, judges-ran, told-won, told-lost}
 use Rattle.judging.proofs.TestLaws.{test-fine}
-use lib.ListN.{length}
-use native.Mathlib.Omega.{arith}
-use mathlib.Core.Path.{_≡_, sym, _∙_}
-use borrow.Author.Needs.{needs}
 use Rattle.judging.proofs.judge_in.Statement.{statement}
 use Rattle.judging.proofs.judge_in.Tie as tie
 
@@ -21,10 +21,10 @@ enum-told : tie.Need-enum-told
 enum-told c = search needs
 
 cast-run : tie.Need-cast-run
-cast-run c = omega (arith, test-fine _ _ _ _ _ (sym (c .before .before .judge-test .ensures) ∙ c .enum-told .given .1) .0)
+cast-run c = omega (arith, test-fine _ _ _ _ _ _ (c .before .before .judge-test .ensures) (c .enum-told .given .1) .0)
 
 run-requires : tie.Need-run-requires
-run-requires c κs = let s = c .before .before .before .before .before .pre in let t = test-fine _ _ _ _ _ (sym (c .before .before .before .judge-test .ensures) ∙ c .before .enum-told .given .1) in (s .0, t .1, t .2, s .1, s .2)
+run-requires c κs = let s = c .before .before .before .before .before .pre in let t = test-fine _ _ _ _ _ _ (c .before .before .before .judge-test .ensures) (c .before .enum-told .given .1) in (s .0, t .1, t .2, s .1, s .2)
 
 returns : tie.Need-returns
 returns c = judges-refused _ _ _ _ _ _ _ _ _ _ (c .before .before .before .judge-test .ensures) _ _ (c .before .v .given .1)

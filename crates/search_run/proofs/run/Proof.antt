@@ -1,7 +1,7 @@
-use Rattle.search_run.proofs.RunLaws.{part-start, part-size, part-zero, room-back}
-use Rattle.position.proofs.Fitting.{fits-plays}
-use native.Mathlib.Omega.{arith}
 use borrow.Author.Needs.{needs}
+use native.Mathlib.Omega.{arith}
+use Rattle.position.proofs.Fitting.{fits-plays}
+use Rattle.search_run.proofs.RunLaws.{part-start, part-size, part-zero, room-back}
 use Rattle.search_run.proofs.run.Statement.{statement}
 use Rattle.search_run.proofs.run.Tie as tie
 

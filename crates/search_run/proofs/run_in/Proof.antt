@@ -1,9 +1,9 @@
-use Rattle.search_run.proofs.RunLaws.{first-stands, first-blank, run-finds, room-kept}
-use Rattle.position.proofs.Fitting.{fits-plays}
-use lib.ListN.{length}
-use native.Mathlib.Omega.{arith}
-use mathlib.Core.Path.{_≡_}
 use borrow.Author.Needs.{needs}
+use lib.ListN.{length}
+use mathlib.Core.Path.{_≡_}
+use native.Mathlib.Omega.{arith}
+use Rattle.position.proofs.Fitting.{fits-plays}
+use Rattle.search_run.proofs.RunLaws.{first-stands, first-blank, run-finds, room-kept}
 use Rattle.search_run.proofs.run_in.Statement.{statement}
 use Rattle.search_run.proofs.run_in.Tie as tie
 
@@ -23,8 +23,8 @@ turn-requires c κs = let s = c .before .before .before .before .before .before 
 leaf-of-requires : tie.Need-leaf-of-requires
 leaf-of-requires c κs = let s = c .before .before .before .before .before .before .before .before .before .before .before .before in let p = s .pre in let h = fits-plays _ _ _ (p .1) in (p .0, omega (arith, p .2, h, c .before .before .before .before .before .before .before .before .before .first-words .ensures .size, c .before .before .before .turn .ensures .1 .size))
 
-clear-leaf-requires : tie.Need-clear-leaf-requires
-clear-leaf-requires c κs = let s = c .before .before .before .before .before .before .before .before .before .before .before .before .before .before in let p = s .pre in let h = fits-plays _ _ _ (p .1) in omega (arith, p .2, h, c .before .before .before .before .before .before .before .before .before .before .before .first-words .ensures .size, c .before .before .before .before .before .turn .ensures .1 .size)
+zero-words-requires : tie.Need-zero-words-requires
+zero-words-requires c κs = let s = c .before .before .before .before .before .before .before .before .before .before .before .before .before .before in let p = s .pre in let h = fits-plays _ _ _ (p .1) in (omega arith, omega (arith, p .2, h, c .before .before .before .before .before .before .before .before .before .before .before .first-words .ensures .size, c .before .before .before .before .before .turn .ensures .1 .size))
 
 same-length : tie.Need-same-length
 same-length c = search needs
@@ -33,7 +33,7 @@ returns : tie.Need-returns
 returns c = let s = c .before .before .before .before .before .before .before .before .before .before .before .before .before .before .before .before .before .before in let p = s .pre in let h = fits-plays _ _ _ (p .1) in let f = c .before .before .before .before .before .before .before .before .before .before .before .before .before .before .before .first-words .ensures in
     let t = c .before .before .before .before .before .before .before .before .before .turn .ensures in (
       (λ P o. run-finds _ _ _ _ _ _ _ _ (p .0) (long s) (p .1) _ _ f _ _ (c .before .before .before .before .before .before .before .before .before .before .before .first-reached .ensures) t (c .before .before .before .before .before .leaf-of .ensures) h P o),
-      room-kept _ _ _ _ _ f (p .4) _ _ _ (t .1) (c .before .before .before .clear-leaf .ensures) (p .2) h (p .0),
+      room-kept _ _ _ _ _ f (p .4) _ _ _ (t .1) (c .before .before .before .zero-words .ensures) (p .2) h (p .0),
     )
 
 pub run-in-spec : {M : Type 1} → statement M
@@ -44,6 +44,6 @@ run-in-spec =
     first-reached-requires
     turn-requires
     leaf-of-requires
-    clear-leaf-requires
+    zero-words-requires
     same-length
     returns)

@@ -1,7 +1,7 @@
+use borrow.Author.Needs.{needs}
+use mathlib.Core.Path.{ap₂, _∙_}
 use Rattle.judging.specs.Tests.{judgeTest}
 use Rattle.refusal.specs.Chain.{_then_}
-use mathlib.Core.Path.{ap₂, _∙_}
-use borrow.Author.Needs.{needs}
 use Rattle.judging.proofs.tests.judge_test.Statement.{statement}
 use Rattle.judging.proofs.tests.judge_test.Tie as tie
 

@@ -1,9 +1,9 @@
-use Rattle.judging.specs.Tests.{roomTest}
-use Rattle.refusal.specs.Chain.{need}
-use lib.Dec.{leb}
-use mathlib.Core.Path.{ap, _∙_}
 use Prim.Native.Nat.{ℕ}
 use borrow.Author.Needs.{needs}
+use lib.Dec.{leb}
+use mathlib.Core.Path.{ap, _∙_}
+use Rattle.judging.specs.Tests.{roomTest}
+use Rattle.refusal.specs.Chain.{need}
 use Rattle.judging.proofs.tests.room_test.Statement.{statement}
 use Rattle.judging.proofs.tests.room_test.Tie as tie
 

@@ -1,8 +1,8 @@
-use Rattle.search_run.proofs.ReachLaws.{copy-reaches}
-use Rattle.search_run.proofs.FirstLaws.{copy-nonzero}
-use Rattle.search.proofs.StandLaws.{stated, nonzero}
-use native.Mathlib.Omega.{arith}
 use borrow.Author.Needs.{needs}
+use native.Mathlib.Omega.{arith}
+use Rattle.search.proofs.StandLaws.{stated, nonzero}
+use Rattle.search_run.proofs.FirstLaws.{copy-nonzero}
+use Rattle.search_run.proofs.ReachLaws.{copy-reaches}
 use Rattle.search_run.proofs.first.first_reached.Statement.{statement}
 use Rattle.search_run.proofs.first.first_reached.Tie as tie
 

@@ -1,6 +1,6 @@
+use borrow.Author.Needs.{needs}
 use native.Mathlib.Omega.{arith}
 use Rattle.search_run.proofs.ReachLaws.{enters-reaches, rules-reach}
-use borrow.Author.Needs.{needs}
 use Rattle.search_run.proofs.first.first_rules.Statement.{statement}
 use Rattle.search_run.proofs.first.first_rules.Tie as tie
 

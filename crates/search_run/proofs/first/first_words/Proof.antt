@@ -1,7 +1,7 @@
-use Rattle.search_run.proofs.FirstLaws.{first-are}
-use Rattle.position.proofs.Fitting.{fits-plays}
-use native.Mathlib.Omega.{arith}
 use borrow.Author.Needs.{needs}
+use native.Mathlib.Omega.{arith}
+use Rattle.position.proofs.Fitting.{fits-plays}
+use Rattle.search_run.proofs.FirstLaws.{first-are}
 use Rattle.search_run.proofs.first.first_words.Statement.{statement}
 use Rattle.search_run.proofs.first.first_words.Tie as tie
 

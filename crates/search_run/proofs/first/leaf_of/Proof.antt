@@ -1,7 +1,7 @@
+use borrow.Author.Needs.{needs}
+use mathlib.Core.Path.{ap, _∙_}
 use Rattle.search_run.proofs.FirstLaws.{words-leaf}
 use Rattle.search_run.specs.FirstTurn.{filled}
-use mathlib.Core.Path.{ap, _∙_}
-use borrow.Author.Needs.{needs}
 use Rattle.search_run.proofs.first.leaf_of.Statement.{statement}
 use Rattle.search_run.proofs.first.leaf_of.Tie as tie
 

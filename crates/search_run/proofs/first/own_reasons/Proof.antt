@@ -1,10 +1,10 @@
 use Prim.Native.Nat.{_-_, _≤_}
-use mathlib.Core.Path.{_≡_, refl, sym, ap, _∙_}
-use native.Mathlib.Omega.{arith}
-use lib.ListN.{length}
-use Rattle.search_run.specs.FirstTurn.{ownReasons}
-use Rattle.search_run.proofs.FirstLaws.{own-none, own-more, length-own}
 use borrow.Author.Needs.{needs}
+use lib.ListN.{length}
+use mathlib.Core.Path.{_≡_, refl, ap, _∙_}
+use native.Mathlib.Omega.{arith}
+use Rattle.search_run.proofs.FirstLaws.{own-none, own-more, length-own}
+use Rattle.search_run.specs.FirstTurn.{ownReasons}
 use Rattle.search_run.proofs.first.own_reasons.Statement.{statement}
 use Rattle.search_run.proofs.first.own_reasons.Tie as tie
 

@@ -1,11 +1,11 @@
 use Prim.Native.Nat.{ℕ, _+_, _-_, _≤_}
+use borrow.Author.Needs.{needs}
+use lib.ListN.{getD, length, replicate, length-set, length-replicate}
 use mathlib.Core.Path.{_≡_, refl, sym}
 use native.Mathlib.Omega.{arith}
-use lib.ListN.{getD, length, replicate, length-set, length-replicate}
-use Rattle.turn_words.specs.TurnRoom.{withRun}
-use Rattle.turn_words.proofs.RoomLaws.{run-none}
 use Rattle.search_run.proofs.FirstLaws.{run-more, run-places}
-use borrow.Author.Needs.{needs}
+use Rattle.turn_words.proofs.RoomLaws.{run-none}
+use Rattle.turn_words.specs.TurnRoom.{withRun}
 use Rattle.search_run.proofs.first.places.Statement.{statement}
 use Rattle.search_run.proofs.first.places.Tie as tie
 

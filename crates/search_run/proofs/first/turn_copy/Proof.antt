@@ -1,10 +1,10 @@
 use Prim.Native.Nat.{_-_, _≤_}
+use borrow.Author.Needs.{needs}
+use lib.ListN.{length, length-set}
 use mathlib.Core.Path.{_≡_, refl, sym, ap, _∙_}
 use native.Mathlib.Omega.{arith}
-use lib.ListN.{length, length-set}
-use Rattle.search_run.specs.FirstTurn.{turnCopy}
 use Rattle.search_run.proofs.FirstLaws.{copy-none, copy-more}
-use borrow.Author.Needs.{needs}
+use Rattle.search_run.specs.FirstTurn.{turnCopy}
 use Rattle.search_run.proofs.first.turn_copy.Statement.{statement}
 use Rattle.search_run.proofs.first.turn_copy.Tie as tie
 
