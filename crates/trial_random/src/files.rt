@@ -11,7 +11,7 @@ pub struct File {
 // The number of variables.
 pub fn size(problem: usize) -> usize
     requires { ⌜ problem < 65536 ⌝ }
-    ensures { λ r. ⌜ r ≤ 5 ⌝ }
+    ensures { λ r. ⌜ (1 ≤ r) × (r ≤ 5) ⌝ }
 {
     let k = draw(problem, 0, 10);
     if k < 5 { 1 + k } else { 5 }
@@ -97,7 +97,7 @@ fn row(problem: usize, i: usize, j: usize, a: usize) -> usize
     while b < 16 {
         let drawn = draw(problem, 1024 + 256 * (8 * i + j) + 16 * a + b, 16);
         if both(both(ours, has(theirs, b)), drawn < share) {
-            w = w + (1 << b);
+            w = w | (1 << b);
         }
         b += 1;
     }
@@ -124,6 +124,20 @@ fn constrained(problem: usize, n: usize, i: usize, j: usize) -> bool
     both(both(i < j, j < n), draw(problem, 64 + 8 * i + j, 4) < share)
 }
 
+// The constraint of pair k at p, if it has one. Replies how many there are, 0 or 1.
+fn put_pair(problem: usize, n: usize, k: usize, p: usize, f: &mut [u8; 400]) -> usize
+    requires { ⌜ (problem < 65536) × (k < 64) × (p ≤ 10000) ⌝ }
+    ensures { λ r. ⌜ r ≤ 1 ⌝ }
+{
+    let i = k / 8;
+    let j = k % 8;
+    if constrained(problem, n, i, j) {
+        put_constraint(problem, i, j, p, f);
+        return 1;
+    }
+    0
+}
+
 // The constraints, ascending by pair, from p on. Replies how many there are.
 fn put_constraints(problem: usize, n: usize, p: usize, f: &mut [u8; 400]) -> usize
     requires { ⌜ (problem < 65536) × (p ≤ 28) ⌝ }
@@ -132,12 +146,7 @@ fn put_constraints(problem: usize, n: usize, p: usize, f: &mut [u8; 400]) -> usi
     let mut m = 0;
     let mut k = 0;
     while k < 64 {
-        let i = k / 8;
-        let j = k % 8;
-        if constrained(problem, n, i, j) {
-            put_constraint(problem, i, j, p + 36 * m, f);
-            m += 1;
-        }
+        m = m + put_pair(problem, n, k, p + 36 * m, f);
         k += 1;
     }
     m
@@ -159,7 +168,7 @@ fn put_file(problem: usize, f: &mut [u8; 400]) -> usize
     q + 2
 }
 
-pub fn file(problem: usize) -> File
+pub fn written(problem: usize) -> File
     requires { ⌜ problem < 65536 ⌝ }
 {
     let mut f = [0u8; 400];

@@ -8,8 +8,8 @@ mod plain;
 mod positions;
 
 use draws::draw;
-use files::file;
 use files::size;
+use files::written;
 use judged_cases::judges;
 use judged_cases::refused;
 use judged_cases::searched;
@@ -92,9 +92,10 @@ fn one_position(
     kind: usize,
     x: Trial,
 ) -> Trial
-    requires { ⌜ n ≤ 8 ⌝ }
+    requires { ⌜ (n ≤ 8) × (set < 128) ⌝ }
 {
-    let used = 128 * (n + 1);
+    let short = 128 * (n + 1) - 1;
+    let lent = short + kind % 8;
     let p = after(picks, d);
     let q = misfit(p, n, kind);
     let won = wins(f, n, d, picks);
@@ -103,10 +104,31 @@ fn one_position(
     Trial {
         sets: under_all_sets(f, p, n, won, x.sets),
         searches: counted(x.searches, r.won == won),
-        short: counted(x.short, judges(f, p, set, used - 1, refused(12), 0)),
-        misfits: counted(x.misfits, judges(f, q, set, used - kind, refused(23), 0)),
+        short: counted(x.short, judges(f, p, set, short, refused(12), 0)),
+        misfits: counted(x.misfits, judges(f, q, set, lent, refused(23), 0)),
         kinds: noted(k, d, won, hold_below(f, d, picks), r.lost),
     }
+}
+
+// How many plays: none at first, then 1 to n.
+fn depth(problem: usize, turn: usize, n: usize) -> usize
+    requires { ⌜ (problem < 65536) × (turn < 8) × (1 ≤ n) × (n ≤ 5) ⌝ }
+    ensures { λ r. ⌜ r ≤ 5 ⌝ }
+{
+    if turn == 0 {
+        0
+    } else {
+        1 + draw(problem, 4 + turn, n)
+    }
+}
+
+fn one_turn(problem: usize, turn: usize, f: &[u8], n: usize, x: Trial) -> Trial
+    requires { ⌜ (problem < 65536) × (turn < 8) × (1 ≤ n) × (n ≤ 5) ⌝ }
+{
+    let d = depth(problem, turn, n);
+    let kind = draw(problem, 7, 5);
+    let picks = plays(f, problem, turn, d);
+    one_position(f, n, d, picks, problem % 128, kind, x)
 }
 
 // A problem from its start and from two positions further on.
@@ -114,16 +136,12 @@ fn one_problem(problem: usize, x: Trial) -> Trial
     requires { ⌜ problem < 65536 ⌝ }
 {
     let n = size(problem);
-    let g = file(problem);
+    let g = written(problem);
     let bytes = g.bytes;
     let f = part(&bytes, 0, g.length);
-    let d = 1 + draw(problem, 5, n);
-    let e = 1 + draw(problem, 6, n);
-    let kind = draw(problem, 7, 5);
-    let set = problem % 128;
-    let y = one_position(f, n, 0, 0, set, kind, x);
-    let z = one_position(f, n, d, plays(f, problem, 0, d), set, kind, y);
-    one_position(f, n, e, plays(f, problem, 1, e), set, kind, z)
+    let y = one_turn(problem, 0, f, n, x);
+    let z = one_turn(problem, 1, f, n, y);
+    one_turn(problem, 2, f, n, z)
 }
 
 fn all_problems(count: usize) -> Trial

@@ -37,7 +37,7 @@ pub fn with(picks: usize, i: usize, a: usize) -> usize
     requires { ⌜ a < 16 ⌝ }
     ensures { λ r. ⌜ r < 4294967296 ⌝ }
 {
-    (picks % 4294967296 + (a << (4 * (i % 8)))) % 4294967296
+    (picks | (a << (4 * (i % 8)))) % 4294967296
 }
 
 // Constraint t holds.

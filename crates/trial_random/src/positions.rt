@@ -22,7 +22,7 @@ fn member(m: usize, r: usize) -> usize
         }
         k += 1;
     }
-    v
+    v % 16
 }
 
 // Values of the first d variables, whether they clash or not.

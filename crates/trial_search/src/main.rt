@@ -50,10 +50,16 @@ fn search_agrees(s: &[u8], q: usize, n: usize, r: Ran) -> bool
     ok
 }
 
-// A case of the first turn (width 2: what it comes to has two bytes for each variable) or of a whole search (width 1).
-fn one_case(width: usize, s: &[u8], t: Tally) -> Tally
-    requires { ⌜ width ≤ 2 ⌝ }
+// The length of what is told of n variables.
+fn bytes_of(width: usize, n: usize) -> usize
+    requires { ⌜ n ≤ 256 ⌝ }
+    ensures { λ r. ⌜ r ≤ 512 ⌝ }
 {
+    if width == 2 { 2 * n } else { n }
+}
+
+// A case of the first turn (width 2: what it comes to has two bytes for each variable) or of a whole search (width 1).
+fn one_case(width: usize, s: &[u8], t: Tally) -> Tally {
     let at = place(t.at);
     let length = word(s, at);
     let f = part(s, at + 2, length);
@@ -61,7 +67,7 @@ fn one_case(width: usize, s: &[u8], t: Tally) -> Tally
     let p = at + 2 + length;
     let plays = byte(s, p + 1);
     let q = p + 2 + plays;
-    let next = moved(t, q + 1 + width * n);
+    let next = moved(t, q + 1 + bytes_of(width, n));
     let position = position_at(s, p + 2, plays, plays);
     let r = searched(f, position, byte(s, p) as u8);
     if width == 2 {
@@ -71,9 +77,7 @@ fn one_case(width: usize, s: &[u8], t: Tally) -> Tally
 }
 
 // The cases that stand from `start` on, behind their number.
-fn all_cases(width: usize, s: &[u8], start: usize) -> Tally
-    requires { ⌜ width ≤ 2 ⌝ }
-{
+fn all_cases(width: usize, s: &[u8], start: usize) -> Tally {
     let at = place(start);
     let count = word(s, at);
     let mut t = moved(none_yet(), at + 2);
