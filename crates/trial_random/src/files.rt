@@ -1,7 +1,7 @@
 // Writes the files of generated problems: 1 to 5 variables of 1 to 4 values each, any of them universal, and any pair constrained.
 ghost use Prim.Native.Nat.{_≤_, _<_};
 use crate::draws::draw;
-use refusal::both;
+use crate::plain::both;
 
 pub struct File {
     pub bytes: [u8; 400],

@@ -14,13 +14,13 @@ use judged_cases::judges;
 use judged_cases::refused;
 use judged_cases::searched;
 use judged_cases::verdict;
+use plain::both;
 use plain::hold_below;
 use plain::wins;
 use position::Position;
 use positions::after;
 use positions::misfit;
 use positions::plays;
-use refusal::both;
 use vectors::Tally;
 use vectors::counted;
 use vectors::line;
@@ -179,7 +179,7 @@ fn tell_kinds(k: Kinds) {
 }
 
 fn main() {
-    let x = all_problems(256);
+    let x = all_problems(1024);
     tell_kinds(x.kinds);
     report(b"verdicts under all sets ", x.sets);
     report(b"verdicts of searches ", x.searches);

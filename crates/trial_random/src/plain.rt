@@ -2,9 +2,12 @@
 // judge. The values picked stand in one number, four bits each.
 ghost use Prim.Native.Nat.{_≤_, _<_};
 use crate::files::has;
-use refusal::both;
 use vectors::byte;
 use vectors::word;
+
+pub fn both(a: bool, b: bool) -> bool {
+    if a { b } else { false }
+}
 
 // The first byte of the variables.
 fn start(f: &[u8]) -> usize

@@ -6,7 +6,6 @@ use crate::plain::domain;
 use crate::plain::picked;
 use crate::plain::with;
 use position::Position;
-use refusal::either;
 
 // The first value of the mask from r on, going round.
 fn member(m: usize, r: usize) -> usize
@@ -84,8 +83,11 @@ pub fn misfit(p: Position, n: usize, kind: usize) -> Position
     if kind == 1 {
         return changed(p, 31, 1);
     }
-    if either(kind == 2, d == 0) {
+    if kind == 2 {
         return changed(p, d % 32, 2);
+    }
+    if d == 0 {
+        return changed(p, 0, 2);
     }
     if kind == 3 {
         return changed(p, 0, 16);

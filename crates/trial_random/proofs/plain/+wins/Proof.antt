@@ -2,8 +2,8 @@ use Prim.Native.Nat.{ℕ, _<_, _≤_, _-_}
 use borrow.Author.Needs.{needs}
 use borrow.Fn.Kinds.{In}
 use borrow.Fn.PlainCycle.{Measures, is, falls, and}
-use Rattle.refusal.proofs.both.Reads as both-reads
 use Rattle.trial_random.proofs.files.has.Reads as has-reads
+use Rattle.trial_random.proofs.plain.both.Reads as both-reads
 use Rattle.trial_random.proofs.plain.domain.Reads as domain-reads
 use Rattle.trial_random.proofs.plain.hold_below.Reads as hold-below-reads
 use Rattle.trial_random.proofs.plain.is_universal.Reads as is-universal-reads
