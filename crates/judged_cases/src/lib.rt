@@ -2,9 +2,11 @@
 // lent, and a search with all that it finds. For the trial programs alone.
 ghost use Prim.Native.Nat.{_≤_, _<_};
 
+mod along;
 mod rooms;
 mod searches;
 
+pub use along::conflict_along;
 use position::Position;
 pub use rooms::Answer;
 pub use rooms::judges;

@@ -1,8 +1,9 @@
-// The five-variable problem that shows why arc must enter a variable into its own reason when a value dies facing a later
-// universal. Variable 2 is universal; the domains are {0, 1}, of variable 3 {0, 1, 2}; all pairs of values are compatible but
-// (variable.value) 0.1-3.2, 1.0-2.0, 1.1-3.0, 2.1-3.2, 2.1-4.1, 3.1-4.0. From the plays 0, 1, 1 the position 0, 0, 1 is won, so
-// that every conflict set of the loss holds variable 1.
+// The five-variable problem that shows why arc enters a variable into its own reason when a value dies facing a later universal.
+// Variable 2 is universal; the domains are {0, 1}, of variable 3 {0, 1, 2}; all pairs of values are compatible but
+// (variable.value) 0.1-3.2, 1.0-2.0, 1.1-3.0, 2.1-3.2, 2.1-4.1, 3.1-4.0. The plays 0, 1, 1 lose and 0, 0, 1 win, so the conflict set
+// of the loss must hold variable 1.
 ghost use Prim.Native.Nat.{_≤_, _<_};
+use judged_cases::conflict_along;
 use judged_cases::searched;
 use position::Position;
 use refusal::both;
@@ -81,19 +82,27 @@ fn after(a: u8) -> Position {
     }
 }
 
-// Under this set 0, 1, 1 is lost, its conflict set holds variable 1, and 0, 0, 1 is won.
-fn holds_one(f: &[u8], set: u8) -> bool {
+fn holds_one(conflict: u32) -> bool {
+    conflict / 2 % 2 == 1
+}
+
+// Under this set 0, 1, 1 is lost with variable 1 in its conflict set, in a search from there and in one from the start, and 0, 0, 1
+// is won.
+fn blames_one(f: &[u8], set: u8) -> bool {
     let r = searched(f, after(1), set);
-    let blamed = r.conflict / 2 % 2 == 1;
     let other = searched(f, after(0), set);
-    both(both(r.won == false, blamed), other.won)
+    let found = both(
+        holds_one(r.conflict),
+        holds_one(conflict_along(f, after(1), set)),
+    );
+    both(both(r.won == false, other.won), found)
 }
 
 pub fn all_sets() -> Tally {
     let g = five();
     let f = part(&g, 0, 243);
-    let a = counted(none_yet(), holds_one(f, 33));
-    let b = counted(a, holds_one(f, 35));
-    let c = counted(b, holds_one(f, 111));
-    counted(c, holds_one(f, 127))
+    let a = counted(none_yet(), blames_one(f, 33));
+    let b = counted(a, blames_one(f, 35));
+    let c = counted(b, blames_one(f, 111));
+    counted(c, blames_one(f, 127))
 }
