@@ -1,6 +1,6 @@
 // What the trials of judging share: positions in the stored cases, a judgement in a room that is dirty and longer than what is
 // lent, and a search with all that it finds. For the trial programs alone.
-ghost use Prim.Native.Nat.{_≤_, _<_};
+ghost use Prim.Native.Nat.{_≤_};
 
 mod along;
 mod rooms;

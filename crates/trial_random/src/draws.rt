@@ -1,5 +1,5 @@
 // Numbers that look random: each is made anew from the number of the problem and a number of its own.
-ghost use Prim.Native.Nat.{_≤_, _<_};
+ghost use Prim.Native.Nat.{_<_};
 
 // One step of mixing, a xorshift and a product.
 fn mixed(x: usize) -> usize

@@ -1,13 +1,12 @@
 // Searches from stored positions. stdin: the number of first turns, then for each a file, a rule set, plays, and the loss and
 // the list that the turn's rules come to; behind them the number of searches, then for each a file, a rule set, plays, the
 // verdict and the leaf. Then one problem of its own, whose conflict set is too small where arc's reasons are.
-ghost use Prim.Native.Nat.{_≤_, _<_};
+ghost use Prim.Native.Nat.{_≤_};
 
 mod sample;
 
 use judged_cases::position_at;
 use judged_cases::searched;
-use position::Position;
 use refusal::both;
 use search_run::Ran;
 use vectors::Tally;

@@ -2,7 +2,7 @@
 // Variable 2 is universal; the domains are {0, 1}, of variable 3 {0, 1, 2}; all pairs of values are compatible but
 // (variable.value) 0.1-3.2, 1.0-2.0, 1.1-3.0, 2.1-3.2, 2.1-4.1, 3.1-4.0. The plays 0, 1, 1 lose and 0, 0, 1 win, so the conflict set
 // of the loss must hold variable 1.
-ghost use Prim.Native.Nat.{_≤_, _<_};
+ghost use Prim.Native.Nat.{_<_};
 use judged_cases::conflict_along;
 use judged_cases::searched;
 use position::Position;
