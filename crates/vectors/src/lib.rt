@@ -52,7 +52,7 @@ pub fn place(p: usize) -> usize
     if p < 1000000 { p } else { 1000000 }
 }
 
-fn one_more(x: usize) -> usize {
+pub fn one_more(x: usize) -> usize {
     if x < 1000000 { x + 1 } else { x }
 }
 
@@ -75,7 +75,7 @@ pub fn moved(t: Tally, p: usize) -> Tally {
     }
 }
 
-fn line(label: &[u8], number: usize) {
+pub fn line(label: &[u8], number: usize) {
     io::write_all(1, label);
     io::print_decimal(1, number as u64);
     io::write_all(1, b"\n");

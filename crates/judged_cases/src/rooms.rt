@@ -1,0 +1,92 @@
+// A judgement in a dirty room.
+ghost use Prim.Native.Nat.{_≤_};
+ghost use lib.ListN.{length};
+use judging::Judged;
+use judging::judge;
+use position::Position;
+use refusal::both;
+
+// What judging answers, as numbers: kind 0 is lost, 1 won, 2 a refusal by number, 3 a file's refusal with its place.
+pub struct Answer {
+    pub kind: usize,
+    pub number: usize,
+    pub place: usize,
+}
+
+// Lost (0) or won (1).
+pub fn verdict(won: usize) -> Answer {
+    Answer {
+        kind: won,
+        number: 0,
+        place: 0,
+    }
+}
+
+pub fn refused(number: usize) -> Answer {
+    Answer {
+        kind: 2,
+        number: number,
+        place: 0,
+    }
+}
+
+pub fn refused_at(number: usize, place: usize) -> Answer {
+    Answer {
+        kind: 3,
+        number: number,
+        place: place,
+    }
+}
+
+fn told(r: Judged) -> Answer {
+    match r {
+        Judged::Lost => verdict(0),
+        Judged::Won => verdict(1),
+        Judged::Refused(e) => refused(e as usize),
+        Judged::RefusedAt(e, p) => refused_at(e as usize, p),
+    }
+}
+
+fn same(a: Answer, b: Answer) -> bool {
+    both(
+        a.kind == b.kind,
+        both(a.number == b.number, a.place == b.place),
+    )
+}
+
+fn judged_on(f: &[u8], p: Position, set: usize, room: &mut [u16], k: usize) -> Answer
+    requires { ⌜ k ≤ length (now room) ⌝ }
+{
+    told(judge(f, p, set, &mut room[0..k]))
+}
+
+fn judged(f: &[u8], p: Position, set: usize, room: &mut [u16; 1280], k: usize) -> Answer
+    requires { ⌜ k ≤ 1280 ⌝ }
+{
+    judged_on(f, p, set, room, k)
+}
+
+// The first `used` words are zero, and the others those of a dirty room.
+fn left(room: &[u16; 1280], used: usize) -> bool {
+    let mut ok = true;
+    let mut k = 0;
+    while k < 1280 {
+        let w = if k < used { 0 } else { 7 };
+        ok = both(room[k] == w, ok);
+        k += 1;
+    }
+    ok
+}
+
+fn at_most_1280(k: usize) -> usize
+    ensures { λ r. ⌜ r ≤ 1280 ⌝ }
+{
+    if k < 1280 { k } else { 1280 }
+}
+
+// Lent k words of a dirty room, judging answers a, and then the first `used` words are zero and all others as before.
+pub fn judges(f: &[u8], p: Position, set: usize, k: usize, a: Answer, used: usize) -> bool {
+    let mut room = [7u16; 1280];
+    let r = judged(f, p, set, &mut room, at_most_1280(k));
+    both(same(r, a), left(&room, used))
+}
