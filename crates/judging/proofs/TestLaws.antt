@@ -1,16 +1,13 @@
 -- The tests before a search.
-use mathlib.Core.Path.{_≡_, sym, ap, ap₂, subst, _∙_}
-use mathlib.Core.Bool.{Bool, true}
+use mathlib.Core.Path.{_≡_, sym, ap, ap₂, _∙_}
+use mathlib.Core.Bool.{Bool}
 use mathlib.Core.List.{List}
 use Prim.Native.Nat.{ℕ, _≤_}
-use native.Mathlib.Omega.{arith}
-use lib.Dec.{T, leb}
+use lib.Dec.{T}
 use lib.ListN.{take}
 use lib.Seq.{getD-take}
-use borrow.Author.Tests.{le-leb, leb-true}
-use Rattle.mask.specs.Range.{each}
-use Rattle.mask.proofs.Logic.{same, true-holds, and-in, by-lt}
-use Rattle.mask.proofs.Range.{each-in}
+use borrow.Author.Tests.{leb-true}
+use Rattle.mask.proofs.Logic.{true-holds}
 use Rattle.refusal.specs.declared.Verdict.{Verdict}
 use Rattle.refusal.specs.declared.Verdict.the-variants.{Fine}
 use Rattle.refusal.specs.Chain.{_then_, need}
@@ -18,8 +15,8 @@ use Rattle.refusal.proofs.Chain.{then-fine, need-fine}
 use Rattle.rule_set.specs.RuleSet.{fullSet, isRuleSet}
 use Rattle.game.specs.Problem.{Problem}
 use Rattle.position.specs.declared.Position.{Position}
-use Rattle.position.specs.Position.{fitsAt, fitsIn}
-use Rattle.position.proofs.Fitting.{place-unplayed, fits-plays, fits-at}
+use Rattle.position.specs.Position.{fitsIn}
+use Rattle.position.proofs.Fitting.{fits-same}
 use Rattle.search_run.specs.Run.{roomNeeded}
 use Rattle.judging.specs.Tests.{positionTest, roomTest, judgeTest}
 
@@ -43,29 +40,11 @@ test-fine n masks p set words v t z =
     let b = position-fine n masks p set (a .0) in
     (b .0, b .1, room-fine n words (a .1))
 
--- Masks from n on are not looked at.
-at-same : (p : Position) (n : ℕ) (masks : List ℕ) → p .plays ≤ n → (i : ℕ) → fitsAt p (take n masks) i ≡ fitsAt p masks i
-unfolding fitsAt
-at-same p n masks h i = by-lt i (p .plays)
-    (λ k. rw (getD-take n masks i 0 (omega arith)))
-    (λ k. place-unplayed _ i _ _ k ∙ sym (place-unplayed _ i _ _ k))
-
-fits-from : (p : Position) (n : ℕ) (l m : List ℕ) → ((i : ℕ) → p .plays ≤ n → fitsAt p l i ≡ fitsAt p m i) → T (fitsIn p n l) → T (fitsIn p n m)
-unfolding fitsIn
-fits-from p n l m e t =
-    let h = fits-plays p n l t in
-    and-in (leb (p .plays) n) (each 32 (λ i. true) (fitsAt p m)) (true-holds (le-leb (p .plays) n h))
-    (each-in 32 (λ i. true) (fitsAt p m) (λ i k _. subst (λ (b : Bool). T b) (e i h) (fits-at p n l t i k)))
-
-fits-take : (p : Position) (n : ℕ) (masks : List ℕ) → fitsIn p n (take n masks) ≡ fitsIn p n masks
-fits-take p n masks =
-    same (fitsIn p n (take n masks)) (fitsIn p n masks) (fits-from p n (take n masks) masks (λ i h. at-same p n masks h i)) (fits-from p n masks (take n masks) (λ i h. sym (at-same p n masks h i)))
-
--- So the tests are those of the problem.
+-- The tests are those of the problem.
 pub position-same : (P : Problem) (n : ℕ) (masks : List ℕ) → P .n ≡ n → P .domain ≡ take n masks → (p : Position) (set : ℕ) → positionTest n masks p set ≡ positionTest (P .n) (P .domain) p set
 unfolding positionTest
 position-same P n masks e f p set =
-    ap (λ (b : Bool). need (isRuleSet set) 8 0 then need b 23 0) (sym (fits-take p n masks) ∙ ap₂ (fitsIn p) (sym e) (sym f))
+    ap (λ (b : Bool). need (isRuleSet set) 8 0 then need b 23 0) (fits-same p n masks (take n masks) (λ i l. sym (getD-take n masks i 0 l)) ∙ ap₂ (fitsIn p) (sym e) (sym f))
 
 pub test-same : (P : Problem) (n : ℕ) (masks : List ℕ) → P .n ≡ n → P .domain ≡ take n masks → (p : Position) (set words : ℕ)
     → judgeTest n masks p set words ≡ judgeTest (P .n) (P .domain) p set words

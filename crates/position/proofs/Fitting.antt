@@ -10,7 +10,7 @@ use lib.Seq.{length-take-le, getD-drop, getD-take, getD-append-add}
 use borrow.Author.Tests.{lt-ltb, le-ltb, leb-true, le-leb, eqb-true}
 use Rattle.mask.specs.Range.{each}
 use Rattle.mask.specs.Mask.{bit}
-use Rattle.mask.proofs.Logic.{holds, true-holds, clash, by-lt, and-in, and-out}
+use Rattle.mask.proofs.Logic.{same, holds, true-holds, clash, by-lt, and-in, and-out}
 use Rattle.mask.proofs.Bits.{bit-high}
 use Rattle.mask.proofs.Range.{each-in, each-out}
 use Rattle.game.specs.Problem.{Problem}
@@ -132,3 +132,23 @@ legal-fits P n masks l e f t =
 
     unplayed : (i : ℕ) → length l ≤ i → T (fitsAt (shown l) masks i)
     unplayed i h = rw (place-unplayed (length l) i _ _ h, getD-behind l (32 - length l) i h) tt
+
+-- Domains that agree on the n variables fit the same positions.
+place-same : (p : Position) (D E : List ℕ) (i : ℕ) → getD D i 0 ≡ getD E i 0 → T (fitsAt p D i) → T (fitsAt p E i)
+unfolding fitsAt
+place-same p D E i e u = rw e at u
+
+place-zero : (p : Position) (D E : List ℕ) (i : ℕ) → p .plays ≤ i → T (fitsAt p D i) → T (fitsAt p E i)
+unfolding fitsAt
+place-zero p D E i e u = rw (place-unplayed (p .plays) i (getD E i 0) (getD (p .values) i 0) e) (rw (place-unplayed (p .plays) i (getD D i 0) (getD (p .values) i 0) e) at u)
+
+fits-go : (p : Position) (n : ℕ) (D E : List ℕ) → ((i : ℕ) → i < n → getD D i 0 ≡ getD E i 0) → T (fitsIn p n D) → T (fitsIn p n E)
+unfolding fitsIn
+fits-go p n D E h t =
+    let few = fits-plays p n D t in
+    and-in (leb (p .plays) n) (each 32 (λ i. true) (fitsAt p E)) (true-holds (le-leb (p .plays) n few))
+    (each-in 32 (λ i. true) (fitsAt p E)
+    (λ i l _. by-lt i n (λ k. place-same p D E i (h i k) (fits-at p n D t i l)) (λ k. place-zero p D E i (omega arith) (fits-at p n D t i l))))
+
+pub fits-same : (p : Position) (n : ℕ) (D E : List ℕ) → ((i : ℕ) → i < n → getD D i 0 ≡ getD E i 0) → fitsIn p n D ≡ fitsIn p n E
+fits-same p n D E h = same (fitsIn p n D) (fitsIn p n E) (fits-go p n D E h) (fits-go p n E D (λ i l. sym (h i l)))

@@ -4,22 +4,20 @@ use mathlib.Core.Bool.{Bool, true, _&&_}
 use mathlib.Core.List.{List}
 use Prim.Native.Nat.{ℕ, _≤_, _<_}
 use native.Mathlib.Omega.{arith}
-use lib.Dec.{T, ltb, leb}
+use lib.Dec.{T, ltb}
 use lib.ListN.{getD}
-use borrow.Author.Tests.{ltb-true, lt-ltb, le-ltb, le-leb}
-use Rattle.mask.specs.Range.{each}
+use borrow.Author.Tests.{ltb-true, lt-ltb, le-ltb}
 use Rattle.mask.specs.Mask.{bit}
-use Rattle.mask.proofs.Logic.{same, holds, true-holds, clash, by-lt, and-in}
+use Rattle.mask.proofs.Logic.{same, holds, true-holds, clash, by-lt}
 use Rattle.mask.proofs.Bits.{bit-high}
-use Rattle.mask.proofs.Range.{each-in}
 use Rattle.refusal.specs.declared.Verdict.{Verdict}
 use Rattle.refusal.specs.declared.Verdict.the-variants.{Fine, Refused as Not}
 use Rattle.refusal.specs.Chain.{_then_, need}
 use Rattle.refusal.proofs.Chain.{then-fine, need-fine}
 use Rattle.game.specs.Problem.{Problem}
 use Rattle.position.specs.declared.Position.{Position}
-use Rattle.position.specs.Position.{pushed, popped, fitsAt, fitsIn}
-use Rattle.position.proofs.Fitting.{fits-plays, fits-at, place-unplayed}
+use Rattle.position.specs.Position.{pushed, popped, fitsIn}
+use Rattle.position.proofs.Fitting.{fits-plays, fits-same}
 use Rattle.session.specs.declared.Played.{Played}
 use Rattle.session.specs.declared.Answer.the-variants.{Done, Refused}
 use Rattle.session.specs.Plays.{answerBy, positionBy, fitTest, playTest, takeBackTest, playIn, takeBackIn}
@@ -79,33 +77,11 @@ pub record DomainsOf (P : Problem) (n : ℕ) (D : List ℕ) : Type 0 where
   pub size : P .n ≡ n
   pub domain : (i : ℕ) → i < n → getD (P .domain) i 0 ≡ getD D i 0
 
--- Domains that agree on the n variables fit the same positions.
-place-same : (p : Position) (D E : List ℕ) (i : ℕ) → getD D i 0 ≡ getD E i 0 → T (fitsAt p D i) → T (fitsAt p E i)
-unfolding fitsAt
-place-same p D E i e u = rw e at u
-
-place-zero : (p : Position) (D E : List ℕ) (i : ℕ) → p .plays ≤ i → T (fitsAt p D i) → T (fitsAt p E i)
-unfolding fitsAt
-place-zero p D E i e u = rw (place-unplayed (p .plays) i (getD E i 0) (getD (p .values) i 0) e) (rw (place-unplayed (p .plays) i (getD D i 0) (getD (p .values) i 0) e) at u)
-
-fits-go : (p : Position) (n : ℕ) (D E : List ℕ) → ((i : ℕ) → i < n → getD D i 0 ≡ getD E i 0) → T (fitsIn p n D) → T (fitsIn p n E)
-unfolding fitsIn
-fits-go p n D E h t =
-    let few = fits-plays p n D t in
-    and-in (leb (p .plays) n) (each 32 (λ i. true) (fitsAt p E)) (true-holds (le-leb (p .plays) n few))
-    (each-in 32 (λ i. true) (fitsAt p E)
-    (λ i l _. by-lt i n (λ k. place-same p D E i (h i k) (fits-at p n D t i l)) (λ k. place-zero p D E i (omega arith) (fits-at p n D t i l))))
-
 module _ (P : Problem) (n : ℕ) (D : List ℕ) (h : DomainsOf P n D) (p : Position) where
   -- The tests over D are those over the problem's own domains.
-  fits-same : fitsIn p n D ≡ fitsIn p (P .n) (P .domain)
-  fits-same =
-      same (fitsIn p n D) (fitsIn p n (P .domain)) (fits-go p n D (P .domain) (λ i l. sym (h .domain i l))) (fits-go p n (P .domain) D (h .domain))
-      ∙ ap (λ (k : ℕ). fitsIn p k (P .domain)) (sym (h .size))
-
   pub fit-same : fitTest n D p ≡ fitTest (P .n) (P .domain) p
   unfolding fitTest
-  fit-same = ap (λ (b : Bool). need b 23 0) fits-same
+  fit-same = ap (λ (b : Bool). need b 23 0) (fits-same p n D (P .domain) (λ i l. sym (h .domain i l)) ∙ ap (λ (k : ℕ). fitsIn p k (P .domain)) (sym (h .size)))
 
   -- Of a position that is not full the next domain is the same; of one that is the value is not looked at.
   next-same : (a : ℕ) → (need (ltb (p .plays) n) 20 0 then need (bit (getD D (p .plays) 0) a) 10 0)
