@@ -16,7 +16,7 @@ use Rattle.mask.proofs.Bits.{bit-of-zero}
 use Rattle.mask.proofs.Masks.{maskOf-and, maskOf-same, maskOf-bits, maskOf-lt}
 use Rattle.mask.proofs.Members.{each-rest}
 use Rattle.arrays.specs.Arrays.{commonIn}
-use Rattle.arrays.proofs.RowLaws.{and-assoc, and-full, full, common-lt}
+use Rattle.arrays.proofs.RowLaws.{and-assoc, full, common-lt}
 use Rattle.skip_rule.specs.Skip.{boxIn, boxGoes, goesAbove, boxesFit, leftBy, leftOf}
 
 -- A test of each member of a mask: the lowest fails; it passes, and the rest is left; none is left.
@@ -105,10 +105,7 @@ module _ (index rows : List ℕ) (later i : ℕ) (w : List ℕ) where
       ∙ sym (maskOf-and 16 (λ b. f b j) (λ b. each 32 (bit (rest m)) (f b)))
       ∙ ap (λ y. bitAnd y (maskOf 16 (λ b. each 32 (bit (rest m)) (f b)))) (sym (maskOf-bits 16 _ (left-by-lt j)))
 
-  -- Every value stands before the first neighbour; one neighbour more; no value is left; no neighbour is left.
-  pub left-start : (m v : ℕ) → v ≡ m → leftOf index rows later i w m ≡ bitAnd 65535 (leftOf index rows later i w v)
-  left-start m v e = sym (ap (λ x. bitAnd 65535 (leftOf index rows later i w x)) e ∙ and-full (leftOf index rows later i w m) (left-lt m))
-
+  -- One neighbour more; no value is left; no neighbour is left.
   pub left-next :
       (out m all j r m' : ℕ) → out < 65536 → m < 2 ^ 32 → ¬ (m ≡ 0) → j ≡ first 32 (bit m) → r ≡ leftBy index rows later i w j → m' ≡ rest m
       → all ≡ bitAnd out (leftOf index rows later i w m) → all ≡ bitAnd (bitAnd out r) (leftOf index rows later i w m')

@@ -5,12 +5,13 @@ use mathlib.Core.List.{List}
 use Prim.Native.Nat.{ℕ, _+_, _%_, _^_, _<_}
 use native.Mathlib.Nat.{mod-eq-of-lt}
 use native.Mathlib.Omega.{arith}
+use lib.Bits.{bitAnd, and-zero-r}
 use lib.Dec.{T, eqb, ltb, eqb→eq, ltb→lt}
 use lib.ListN.{getD}
 use borrow.Author.Tests.{eq-eqb, ne-eqb, lt-ltb}
 use Rattle.mask.specs.Range.{each}
 use Rattle.mask.specs.Mask.{bit, maskOf, diff, above}
-use Rattle.mask.proofs.Logic.{same, true-holds, clash, test, by-eq, by-lt, and-in, and-out}
+use Rattle.mask.proofs.Logic.{same, holds, true-holds, clash, test, by-eq, by-lt, and-in, and-out}
 use Rattle.mask.proofs.Range.{each-in, each-out}
 use Rattle.mask.proofs.Bits.{bit-single, bit-of-zero, bit-diff, bit-ext}
 use Rattle.mask.proofs.Masks.{bit-maskOf, maskOf-lt, maskOf-same, maskOf-bits, diff-lt}
@@ -204,7 +205,7 @@ module _ (P : Problem) (n u : ℕ) (near index rows : List ℕ) (S : States P n 
       own : (b a : ℕ) → T (around-of b i a) → a ≡ b
       own b a t = eqb→eq a b (subst T (around-own b a) t)
 
-  -- All values of i at once, with the mask v of the later universal variables: the pairs without i fit; they do not; no value is left.
+  -- All values of i at once, with the mask v of the later universal variables.
   abbrev Skipped : ℕ
   Skipped = maskOf 16 (skippable P (listIn n w) i (leafIn n w))
 
@@ -218,23 +219,27 @@ module _ (P : Problem) (n u : ℕ) (near index rows : List ℕ) (S : States P n 
     skip-at : (b : ℕ) → b < 16 → skippable P (listIn n w) i (leafIn n w) b ≡ (boxesFit near index rows n v i w && bit (leftOf index rows v i w (getD near i 0)) b)
     skip-at b l = skip-is b l ∙ ap₂ (λ x m. x && bit m b) fits-at left-at
 
-    pub skips-left : (r : ℕ) → r ≡ leftOf index rows v i w (getD near i 0) → boxesFit near index rows n v i w ≡ true → r ≡ Skipped
-    skips-left r e t =
-        maskOf-bits 16 r (rw e (left-lt index rows v i w (getD near i 0)))
-        ∙ maskOf-same 16 (bit r) (skippable P (listIn n w) i (leafIn n w)) λ b l. sym (skip-at b l ∙ ap₂ (λ x m. x && bit m b) t (sym e))
+    abbrev left : ℕ
+    left = leftOf index rows v i w (getD near i 0)
 
-    pub skips-none : boxesFit near index rows n v i w ≡ false → 0 ≡ Skipped
-    skips-none t =
+    left-skipped : boxesFit near index rows n v i w ≡ true → left ≡ Skipped
+    left-skipped t =
+        maskOf-bits 16 left (left-lt index rows v i w (getD near i 0))
+        ∙ maskOf-same 16 (bit left) (skippable P (listIn n w) i (leafIn n w)) λ b l. sym (skip-at b l ∙ ap (λ x. x && bit left b) t)
+
+    none-skipped : boxesFit near index rows n v i w ≡ false → 0 ≡ Skipped
+    none-skipped t =
         maskOf-bits 16 0 (omega arith)
         ∙ maskOf-same 16 (bit 0) (skippable P (listIn n w) i (leafIn n w)) λ b l.
-        bit-of-zero b ∙ sym (skip-at b l ∙ ap (λ x. x && bit (leftOf index rows v i w (getD near i 0)) b) t)
+        bit-of-zero b ∙ sym (skip-at b l ∙ ap (λ x. x && bit left b) t)
 
-    pub skips-empty : (r : ℕ) → r ≡ leftOf index rows v i w (getD near i 0) → r ≡ 0 → 0 ≡ Skipped
-    skips-empty r e o =
-        maskOf-bits 16 0 (omega arith)
-        ∙ maskOf-same 16 (bit 0) (skippable P (listIn n w) i (leafIn n w)) λ b l.
-        bit-of-zero b ∙ sym (skip-at b l ∙ ap (λ x. boxesFit near index rows n v i w && x) (ap (λ m. bit m b) (sym e ∙ o) ∙ bit-of-zero b) ∙ no (boxesFit near index rows n v i w))
-      where
-        no : (x : Bool) → (x && false) ≡ false
-        no true = refl
-        no false = refl
+    -- Of the values m of i: the pairs without i fit; they do not; no value is left.
+    module _ (m : ℕ) where
+      pub skips-left : (r : ℕ) → r ≡ bitAnd m left → boxesFit near index rows n v i w ≡ true → r ≡ bitAnd m Skipped
+      skips-left r e t = e ∙ ap (bitAnd m) (left-skipped t)
+
+      pub skips-none : boxesFit near index rows n v i w ≡ false → 0 ≡ bitAnd m Skipped
+      skips-none t = sym (ap (bitAnd m) (sym (none-skipped t)) ∙ and-zero-r m)
+
+      pub skips-empty : (r : ℕ) → r ≡ bitAnd m left → r ≡ 0 → 0 ≡ bitAnd m Skipped
+      skips-empty r e o = test (boxesFit near index rows n v i w) (λ t. sym o ∙ skips-left r e (holds t)) skips-none

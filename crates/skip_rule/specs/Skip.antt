@@ -4,6 +4,7 @@ use mathlib.Core.Path.{_≡_}
 use mathlib.Core.Bool.{Bool, true, cond}
 use mathlib.Core.List.{List}
 use Prim.Native.Nat.{ℕ, _+_, _%_, _^_, _<_}
+use lib.Bits.{bitAnd}
 use lib.Dec.{eqb}
 use lib.ListN.{getD}
 use Rattle.mask.specs.Range.{each}
@@ -39,7 +40,7 @@ leftOf index rows later i w m = maskOf 16 (λ b. each 32 (bit m) (λ j. bit (lef
 abbrev pub LeafSmall : ℕ → List ℕ → Type 0
 LeafSmall n w = (j : ℕ) → j < n → getD w (96 + j) 0 < 16
 
--- The mask r holds the values of i that rule 7 skips after the leaf in the words w, in every problem that the arrays state.
-abbrev pub Skips : List ℕ → List ℕ → List ℕ → ℕ → ℕ → ℕ → List ℕ → ℕ → Type 0
-Skips near index rows n universal i w r =
-    (P : Problem) → States P n universal near index rows → LeafSmall n w → r ≡ maskOf 16 (skippable P (listIn n w) i (leafIn n w))
+-- The mask r holds the values of i in the mask m that rule 7 skips after the leaf in the words w, in every problem that the arrays state.
+abbrev pub Skips : List ℕ → List ℕ → List ℕ → ℕ → ℕ → ℕ → ℕ → List ℕ → ℕ → Type 0
+Skips near index rows n universal i m w r =
+    (P : Problem) → States P n universal near index rows → LeafSmall n w → r ≡ bitAnd m (maskOf 16 (skippable P (listIn n w) i (leafIn n w)))

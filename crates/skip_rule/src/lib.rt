@@ -1,7 +1,9 @@
-// Rule 7 on the words of a turn: the values of its variable i that a leaf lets it skip, all at once. `later` is the mask
-// of the universal variables above i. Only neighbours are looked at. The functions that are `pub` are for the search.
+// Rule 7 on the words of a turn: of some values of its variable i those that a leaf lets it skip, all at once. `later` is
+// the mask of the universal variables above i. Only neighbours are looked at. The functions that are `pub` are for the
+// search.
 ghost use mathlib.Core.Path.{_≡_};
 ghost use Prim.Native.Nat.{_<_, _≤_};
+ghost use lib.Bits.{bitAnd};
 ghost use lib.ListN.{length, getD};
 ghost use Rattle.mask.specs.Mask.{bit};
 ghost use Rattle.game.specs.Search.{untried};
@@ -113,19 +115,20 @@ fn left_by(
     common(index, rows, j, box_of(later, i, j, w), i)
 }
 
-// The values of i that do so for each neighbour.
+// The values of i in the mask m that do so for each neighbour.
 fn values_left(
     near: &[u32; 32],
     index: &[u16; 1024],
     rows: &[u16; 15888],
     later: u32,
     i: usize,
+    m: u16,
     w: &[u16],
 ) -> u16
     requires { ⌜ (i < 32) × (128 ≤ length (now w)) × InRange (now index) ⌝ }
-    ensures { λ r. ⌜ r ≡ leftOf (now (index .entry)) (now (rows .entry)) later i (now (w .entry)) (getD (now (near .entry)) i 0) ⌝ }
+    ensures { λ r. ⌜ r ≡ bitAnd m (leftOf (now (index .entry)) (now (rows .entry)) later i (now (w .entry)) (getD (now (near .entry)) i 0)) ⌝ }
 {
-    let mut out: u16 = 65535;
+    let mut out = m;
     let mut left = neighbours(near, i);
     while left != 0 {
         if out == 0 {
@@ -138,7 +141,7 @@ fn values_left(
     out
 }
 
-// The values of i that rule 7 skips after the leaf in the words.
+// The values of i in the mask m that rule 7 skips after the leaf in the words.
 pub fn skippable_values(
     near: &[u32; 32],
     index: &[u16; 1024],
@@ -146,13 +149,14 @@ pub fn skippable_values(
     n: usize,
     universal: u32,
     i: usize,
+    m: u16,
     w: &[u16],
 ) -> u16
     requires { ⌜ (i < n) × (n ≤ 32) × (128 ≤ length (now w)) × InRange (now index) ⌝ }
-    ensures { λ r. ⌜ Skips (now (near .entry)) (now (index .entry)) (now (rows .entry)) n universal i (now (w .entry)) r ⌝ }
+    ensures { λ r. ⌜ Skips (now (near .entry)) (now (index .entry)) (now (rows .entry)) n universal i m (now (w .entry)) r ⌝ }
 {
     let later = members_above_32(universal, i);
-    let out = values_left(near, index, rows, later, i, w);
+    let out = values_left(near, index, rows, later, i, m, w);
     if out == 0 {
         return 0;
     }
