@@ -182,14 +182,18 @@ fn untried_next(
     requires { ⌜ (n ≤ 32) × (d < n) × (a < 16) × (128 ≤ length (now w)) × InRange (now index) ⌝ }
     ensures { λ r. ⌜ LeavesUntried n universal (now (near .entry)) (now (index .entry)) (now (rows .entry)) set d left a (now (w .entry)) r ⌝ }
 {
+    let m = untried_after(left, a, 0);
+    if m == 0 {
+        return 0;
+    }
     if in_use(set, 7) {
         return untried_after(
             left,
             a,
-            skippable_values(near, index, rows, n, universal, d, w),
+            skippable_values(near, index, rows, n, universal, d, m, w),
         );
     }
-    untried_after(left, a, 0)
+    m
 }
 
 // The turn after d plays, whose variable d is existential.

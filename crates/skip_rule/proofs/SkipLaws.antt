@@ -40,17 +40,6 @@ untried-is u a skipped m r h e q =
     order false true z = refl
     order false false z = refl
 
--- The mask of what a test skips stands for the test, where the rule is used; 0 does where it is not.
-pub untried-mask : (used : Bool) (f : ℕ → Bool) (a u r : ℕ) → r ≡ cond used (maskOf 16 f) 0 → untried (bit r) a u ≡ untried (λ b. used && f b) a u
-unfolding untried
-untried-mask used f a u r e =
-    maskOf-same 16 (λ b. ltb a b && (bit u b && not (bit r b))) (λ b. ltb a b && (bit u b && not (used && f b)))
-    λ b l. ap (λ x. ltb a b && (bit u b && not x)) (ap (λ m. bit m b) e ∙ go used b l)
-  where
-    go : (used : Bool) (b : ℕ) → b < 16 → bit (cond used (maskOf 16 f) 0) b ≡ (used && f b)
-    go true b l = bit-maskOf 16 f b l
-    go false b l = bit-of-zero b
-
 module _ (P : Problem) (n u : ℕ) (near index rows : List ℕ) (S : States P n u near index rows) (i : ℕ) (h : i < n) (w : List ℕ) (small : LeafSmall n w) where
   abbrev box : ℕ → ℕ
   box j = boxIn (above u i) i w j
