@@ -8,7 +8,7 @@ ghost use lib.ListN.{length, getD};
 ghost use Rattle.mask.specs.Mask.{bit};
 ghost use Rattle.game.specs.Search.{untried};
 ghost use Rattle.arrays.specs.Arrays.{InRange};
-ghost use Rattle.skip_rule.specs.Skip.{boxIn, boxGoes, goesAbove, boxesFit, leftBy, leftOf, Skips};
+ghost use Rattle.skip_rule.specs.Skip.{boxIn, boxGoes, goesAbove, testedAbove, LeafKeeps, LeafHolds, boxesFit, leftBy, leftOf, Skips};
 use arrays::common;
 use arrays::later_neighbours;
 use arrays::neighbours;
@@ -52,6 +52,19 @@ fn box_goes(
     within(box_of(later, i, k, w), common(index, rows, j, m, k))
 }
 
+// The neighbours above j whose values need a test. A leaf that is handed up breaks no constraint: pairs of two of its values
+// need none.
+fn tested_above(near: &[u32; 32], later: u32, j: usize) -> u32
+    requires { ⌜ j < 32 ⌝ }
+    ensures { λ r. ⌜ r ≡ testedAbove (now (near .entry)) later j ⌝ }
+{
+    let above = later_neighbours(near, j);
+    if !contains_32(later, j) {
+        return above & later;
+    }
+    above
+}
+
 // Whether the values of j and those of each neighbour above it go together.
 fn goes_above(
     near: &[u32; 32],
@@ -62,11 +75,11 @@ fn goes_above(
     j: usize,
     w: &[u16],
 ) -> bool
-    requires { ⌜ (j < 32) × (128 ≤ length (now w)) × InRange (now index) ⌝ }
+    requires { ⌜ (j < 32) × (128 ≤ length (now w)) × InRange (now index) × LeafKeeps (now near) (now index) (now rows) (now w) j ⌝ }
     ensures { λ r. ⌜ r ≡ goesAbove (now (near .entry)) (now (index .entry)) (now (rows .entry)) later i (now (w .entry)) j ⌝ }
 {
     let m = box_of(later, i, j, w);
-    let mut left = later_neighbours(near, j);
+    let mut left = tested_above(near, later, j);
     while left != 0 {
         let k = lowest_32(left) as usize;
         if !box_goes(index, rows, later, i, j, m, k, w) {
@@ -87,7 +100,7 @@ fn boxes_fit(
     i: usize,
     w: &[u16],
 ) -> bool
-    requires { ⌜ (n ≤ 32) × (128 ≤ length (now w)) × InRange (now index) ⌝ }
+    requires { ⌜ (n ≤ 32) × (128 ≤ length (now w)) × InRange (now index) × LeafHolds n (now near) (now index) (now rows) (now w) ⌝ }
     ensures { λ r. ⌜ r ≡ boxesFit (now (near .entry)) (now (index .entry)) (now (rows .entry)) n later i (now (w .entry)) ⌝ }
 {
     let mut j = 0;
@@ -152,7 +165,7 @@ pub fn skippable_values(
     m: u16,
     w: &[u16],
 ) -> u16
-    requires { ⌜ (i < n) × (n ≤ 32) × (128 ≤ length (now w)) × InRange (now index) ⌝ }
+    requires { ⌜ (i < n) × (n ≤ 32) × (128 ≤ length (now w)) × InRange (now index) × LeafHolds n (now near) (now index) (now rows) (now w) ⌝ }
     ensures { λ r. ⌜ Skips (now (near .entry)) (now (index .entry)) (now (rows .entry)) n universal i m (now (w .entry)) r ⌝ }
 {
     let later = members_above_32(universal, i);
