@@ -40,6 +40,12 @@ untried-is u a skipped m r h e q =
     order false true z = refl
     order false false z = refl
 
+-- A neighbour of j above it is a variable above j.
+pub near-above : (P : Problem) (n u : ℕ) (near index rows : List ℕ) → States P n u near index rows → (j k : ℕ) → j < n → T (bit (above (getD near j 0) j) k) → (j < k) × (k < n)
+near-above P n u near index rows S j k l t =
+    let q = and-out (bit (getD near j 0) k) (ltb j k) (subst T (bit-above (getD near j 0) j k) t) in
+    (ltb→lt j k (q .1), by-lt k n (λ y. y) (λ y. absurd (clash (S .inside j k l y ∙ bit-of-zero k) (q .0))))
+
 module _ (P : Problem) (n u : ℕ) (near index rows : List ℕ) (S : States P n u near index rows) (i : ℕ) (h : i < n) (w : List ℕ) (small : LeafSmall n w) where
   abbrev box : ℕ → ℕ
   box j = boxIn (above u i) i w j
@@ -89,12 +95,6 @@ module _ (P : Problem) (n u : ℕ) (near index rows : List ℕ) (S : States P n 
   common-in j m k c x y l f =
       subst T (sym (common-is j m k c x y l)) (each-in 16 (bit m) (λ a. bit (rowIn index rows j a k) c) λ a o s. subst T (S .row j a k c x o y l) (f a o s))
 
-  -- A neighbour of j above it is a variable above j.
-  near-above : (j k : ℕ) → j < n → T (bit (above (getD near j 0) j) k) → (j < k) × (k < n)
-  near-above j k l t =
-      let q = and-out (bit (getD near j 0) k) (ltb j k) (subst T (bit-above (getD near j 0) j k) t) in
-      (ltb→lt j k (q .1), by-lt k n (λ y. y) (λ y. absurd (clash (S .inside j k l y ∙ bit-of-zero k) (q .0))))
-
   -- The test of the pairs without i: what it gives, and what shows it.
   fits-out : T (boxesFit near index rows n (above u i) i w)
       → (j k a c : ℕ) → j < k → k < n → T (P .constrained j k) → a < 16 → T (bit (box j) a) → c < 16 → T (bit (box k) c) → T (P .compatible j a k c)
@@ -112,7 +112,7 @@ module _ (P : Problem) (n u : ℕ) (near index rows : List ℕ) (S : States P n 
   fits-in f =
       each-in n (λ j. true) (goesAbove near index rows (above u i) i w) λ j l _.
       each-in 32 (bit (above (getD near j 0) j)) (boxGoes index rows (above u i) i w j (box j)) λ k _ t.
-      let y = near-above j k l t in
+      let y = near-above P n u near index rows S j k l t in
       each-in 16 (bit (box k)) (bit (commonIn index rows j (box j) k)) λ c x v. common-in j (box j) k c l (y .1) x (λ a o s. f j k a c (y .0) (y .1) o s x v)
 
   -- The values that are left of i: what they give, and what shows one.
