@@ -23,7 +23,10 @@ pub uses-is : (S k : ℕ) → 1 ≤ k → bit S (k - 1) ≡ uses S k
 unfolding uses
 uses-is S k h = let e : k ≡ suc (k - 1) = omega arith in sym (ap (uses S) e)
 
--- Look ahead is used below n only.
+-- Look ahead is left out where rule 1 is used, and used below n only.
+pub ahead-off : (on u b : Bool) → on ≡ u → on ≡ true → false ≡ (not u && b)
+ahead-off on u b e t = ap (λ u. not u && b) (sym t ∙ e)
+
 pub ahead-below : (S d n : ℕ) (b : Bool) → b ≡ (not (uses S 1) && (ltb d n && uses S 3)) → b ≡ true → d < n
 ahead-below S d n b e f =
     ltb-true d n (holds (and-out (ltb d n) (uses S 3) (and-out (not (uses S 1)) (ltb d n && uses S 3) (true-holds (sym e ∙ f)) .1) .0))

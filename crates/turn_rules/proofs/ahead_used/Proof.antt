@@ -1,6 +1,7 @@
 use mathlib.Core.Path.{sym, _∙_}
 use borrow.Author.Tests.{lt-ltb, le-ltb}
 use borrow.Author.Needs.{needs}
+use Rattle.turn_rules.proofs.TurnLaws.{ahead-off}
 use Rattle.turn_rules.proofs.ahead_used.Statement.{statement}
 use Rattle.turn_rules.proofs.ahead_used.Tie as tie
 
@@ -8,7 +9,7 @@ in-use-requires : tie.Need-in-use-requires
 in-use-requires c κs = search needs
 
 returns : tie.Need-returns
-returns c = rw (sym (c .before .in-use .ensures) ∙ c .if1 .taken)
+returns c = ahead-off _ _ _ (c .before .in-use .ensures) (c .if1 .taken)
 
 in-use-requires-2 : tie.Need-in-use-requires-2
 in-use-requires-2 c κs = search needs
