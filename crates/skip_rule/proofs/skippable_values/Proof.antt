@@ -1,5 +1,6 @@
 use borrow.Author.Needs.{needs}
 use mathlib.Core.Path.{sym, _∙_}
+use native.Mathlib.Omega.{arith}
 use Rattle.skip_rule.proofs.SkipLaws.{skips-left, skips-none, skips-empty}
 use Rattle.skip_rule.proofs.skippable_values.Statement.{statement}
 use Rattle.skip_rule.proofs.skippable_values.Tie as tie
@@ -15,7 +16,7 @@ returns c = λ P S small.
     skips-empty P _ _ _ _ _ S _ (c .before .before .before .before .pre .0) _ small _ (c .before .before .members-above-32 .ensures) (c .before .before .before .before .args .m) _ (c .before .values-left .ensures) (c .if1 .taken)
 
 boxes-fit-requires : tie.Need-boxes-fit-requires
-boxes-fit-requires c κs = search needs
+boxes-fit-requires c κs = (search needs, search needs, search needs, λ j h. c .before .before .before .before .pre .4 j (omega arith))
 
 returns-2 : tie.Need-returns-2
 returns-2 c = λ P S small.
