@@ -154,7 +154,7 @@ fn values_left(
     out
 }
 
-// The values of i in the mask m that rule 7 skips after the leaf in the words.
+// The values of i in the mask m that rule 7 skips after the leaf in the words, which breaks no constraint.
 pub fn skippable_values(
     near: &[u32; 32],
     index: &[u16; 1024],
