@@ -21,7 +21,7 @@ use Rattle.narrow_rules.specs.Narrow.{Narrows, NarrowsNext}
 use Rattle.skip_rule.specs.Skip.{LeafSmall, Skips}
 use Rattle.turn_rules.specs.RuledTurn.{Plays, Replied, RuledTurn}
 use Rattle.search.specs.TurnSteps.{Enters, LeavesUntried}
-use Rattle.search.proofs.ValueLaws.{untried-off, untried-used}
+use Rattle.search.proofs.ValueLaws.{untried-none, untried-off, untried-used}
 
 -- Words behind the reasons stay.
 holding-behind : (n : ℕ) → n ≤ 32 → (w l R : List ℕ) (k : ℕ) → 96 ≤ k → getD (holding n w l R) k 0 ≡ getD w k 0
@@ -77,10 +77,14 @@ module _ (P : Problem) (n universal : ℕ) (near index rows : List ℕ) (st : St
             (eb ∙ sym (getD-listIn n v d h) ∙ ap (λ (l : List ℕ). getD l d 0) held);
       }
 
--- What is left to try, with rule 7 and without.
-module _ (n universal : ℕ) (near index rows : List ℕ) (S d left a : ℕ) (w : List ℕ) (on : Bool) (o : on ≡ uses S 7) where
-  pub leaves-used : on ≡ true → (s r : ℕ) → Skips near index rows n universal d w s → r ≡ untried (bit s) a left → LeavesUntried n universal near index rows S d left a w r
-  leaves-used t s r k e = λ P st small. e ∙ untried-used (uses S 7) (skippable P (listIn n w) d (leafIn n w)) a left s (sym o ∙ t) (k P st small)
+-- What is left to try where nothing is untried, with rule 7 and without.
+module _ (n universal : ℕ) (near index rows : List ℕ) (S d left a : ℕ) (w : List ℕ) (m : ℕ) (q : m ≡ untried (bit 0) a left) where
+  pub leaves-none : m ≡ 0 → LeavesUntried n universal near index rows S d left a w 0
+  leaves-none z = λ P st small. untried-none (λ b. uses S 7 && skippable P (listIn n w) d (leafIn n w) b) a left m q z
 
-  pub leaves-off : on ≡ false → (r : ℕ) → r ≡ untried (bit 0) a left → LeavesUntried n universal near index rows S d left a w r
-  leaves-off t r e = λ P st small. e ∙ untried-off (uses S 7) (skippable P (listIn n w) d (leafIn n w)) a left 0 (sym o ∙ t) refl
+  module _ (on : Bool) (o : on ≡ uses S 7) where
+    pub leaves-used : on ≡ true → (s r : ℕ) → Skips near index rows n universal d m w s → r ≡ untried (bit s) a left → LeavesUntried n universal near index rows S d left a w r
+    leaves-used t s r k e = λ P st small. e ∙ untried-used (uses S 7) (skippable P (listIn n w) d (leafIn n w)) a left m s (sym o ∙ t) q (k P st small)
+
+    pub leaves-off : on ≡ false → LeavesUntried n universal near index rows S d left a w m
+    leaves-off t = λ P st small. q ∙ untried-off (uses S 7) (skippable P (listIn n w) d (leafIn n w)) a left 0 (sym o ∙ t) refl

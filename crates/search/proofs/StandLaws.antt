@@ -1,23 +1,31 @@
 -- What the words of a turn give its rules: some problem, plays in single masks, no variable without a value.
-use mathlib.Core.Path.{_≡_, sym, ap, subst, _∙_}
-use mathlib.Core.Bool.{Bool}
+use mathlib.Core.Path.{_≡_, sym, ap, ap₂, subst, _∙_}
+use mathlib.Core.Bool.{Bool, true}
 use mathlib.Core.List.{List}
-use Prim.Native.Nat.{ℕ, _^_, _≤_, _<_}
+use Prim.Native.Nat.{ℕ, _+_, _-_, _%_, _≤_, _<_}
+use native.Mathlib.Nat.{mod-eq-of-lt}
 use native.Mathlib.Omega.{arith}
 use lib.Dec.{T}
-use lib.ListN.{getD, length}
+use lib.ListN.{getD}
+use Rattle.mask.specs.Range.{each}
 use Rattle.mask.specs.Mask.{bit}
 use Rattle.mask.proofs.Logic.{clash}
+use Rattle.mask.proofs.Range.{each-out}
 use Rattle.mask.proofs.Bits.{bit-of-zero}
 use Rattle.game.specs.Problem.{Problem}
+use Rattle.game.specs.Game.{satisfied}
 use Rattle.game.specs.Lists.{domains}
+use Rattle.game.specs.Position.{playOf}
+use Rattle.game.specs.Search.{solved, search}
 use Rattle.theory.proofs.Theorems as theorems
 use Rattle.theory.proofs.Lists.{lent-out}
 use Rattle.theory.proofs.Turns.{turn-at}
 use Rattle.arrays.specs.Arrays.{States}
-use Rattle.arrays.specs.Words.{listIn, whyIn}
-use Rattle.arrays.proofs.WordLaws.{getD-listIn}
+use Rattle.arrays.specs.Words.{listIn, whyIn, leafIn}
+use Rattle.arrays.proofs.WordLaws.{getD-listIn, getD-leafIn}
 use Rattle.forward_rule.specs.Replies.{Nonzero}
+use Rattle.skip_rule.specs.Skip.{LeafSmall, LeafHolds}
+use Rattle.skip_rule.proofs.SkipLaws.{near-above}
 use Rattle.turn_rules.specs.RuledTurn.{Stated, Plays}
 use Rattle.search.specs.TurnReply.{TurnIn, Stands, TurnReplies}
 use Rattle.search.proofs.LastLaws.{played}
@@ -48,6 +56,31 @@ module _ (n universal : ℕ) (near index rows : List ℕ) (S c d : ℕ) (w : Lis
       let e = s .states .size in
       let f = lent-out (s .problem) (listIn n w) (a .may) .full j (omega arith) in
       clash (bit-of-zero (f .0)) (subst (λ m. T (bit m (f .0))) (getD-listIn n w j h ∙ z) (f .1 .1))
+
+-- The leaf that a turn hands up breaks no constraint, in whatever words it stands.
+pub leaf-holds : (P : Problem) (n universal : ℕ) (near index rows : List ℕ) → States P n universal near index rows → (S c d : ℕ) (p w : List ℕ) → TurnIn P n S c d p w
+    → (q : List ℕ) → search P S c (n - d) p (listIn n w) (whyIn n w) ≡ solved q
+    → (r : List ℕ) → leafIn n r ≡ q → LeafSmall n r → LeafHolds n near index rows r
+unfolding satisfied playOf
+leaf-holds P n universal near index rows st S c d p w turn q e r f small j h k t =
+    let a = near-above P n universal near index rows st j k h t in
+    subst T (st .row j (value j) k (value k) h (omega arith) (a .1) (omega arith)) (subst (λ x. T (P .compatible j x k (value k))) (is j h) (subst (λ x. T (P .compatible j (getD q j 0) k x)) (is k (a .1)) (pair (a .0) (a .1))))
+  where
+    value : ℕ → ℕ
+    value i = getD r (96 + i) 0 % 16
+
+    is : (i : ℕ) → i < n → getD q i 0 ≡ value i
+    is i l = ap (λ (l : List ℕ). getD l i 0) (sym f) ∙ getD-leafIn n r i l ∙ sym (mod-eq-of-lt (small i l))
+
+    all : T (satisfied (P .compatible) (P .n) (playOf q))
+    all = theorems.turn-hands-leaf P S (turn .plays) (turn .legal-start) c p (listIn n w) (whyIn n w) (turn .turn) q
+        (ap₂ (λ m i. search P S c (m - i) p (listIn n w) (whyIn n w)) (st .size) (turn .count) ∙ e) .3
+
+    pair : j < k → k < n → T (P .compatible j (getD q j 0) k (getD q k 0))
+    pair l u =
+        let z = st .size in
+        each-out k (λ j. true) (λ j. P .compatible j (getD q j 0) k (getD q k 0))
+        (each-out (P .n) (λ k. true) (λ k. each k (λ j. true) (λ j. P .compatible j (getD q j 0) k (getD q k 0))) all k (omega arith) tt) j l tt
 
 -- All variables are played: what is said at d is said at n.
 module _ (n universal : ℕ) (near index rows : List ℕ) (S c d : ℕ) (w : List ℕ) (e : d ≡ n) where

@@ -1,19 +1,19 @@
 -- The values of a turn, by the members of the mask that is left to try: the definitions go over all 16 values, the code over members. What is
 -- left, from the present set or leaf, is the whole reply: that equation is what a loop keeps.
-use mathlib.Core.Path.{_≡_, refl, sym, ap, subst, _∙_, fun-ext}
+use mathlib.Core.Path.{_≡_, refl, sym, ap, ap₂, subst, _∙_, fun-ext}
 use mathlib.Core.Bool.{Bool, true, false, cond, not, _&&_, _||_}
 use mathlib.Core.List.{List}
 use Prim.Native.Nat.{ℕ, zero, suc, _+_, _-_, _^_, _≤_, _<_}
 use native.Mathlib.Omega.{arith}
 use lib.Dec.{T, eqb, ltb}
-use lib.Bits.{bitOr}
+use lib.Bits.{bitAnd, bitOr}
 use borrow.Author.Tests.{eq-eqb, ne-eqb, lt-ltb, le-ltb}
 use Rattle.mask.specs.Range.{first}
 use Rattle.mask.specs.Mask.{bit, maskOf, rest}
 use Rattle.mask.proofs.Logic.{holds, clash, and-out, by-eq, by-lt}
 use Rattle.mask.proofs.Range.{first-least}
-use Rattle.mask.proofs.Bits.{bit-of-zero, bit-high}
-use Rattle.mask.proofs.Masks.{maskOf-lt, bit-maskOf, maskOf-same}
+use Rattle.mask.proofs.Bits.{bit-and, bit-of-zero, bit-high}
+use Rattle.mask.proofs.Masks.{maskOf-lt, bit-maskOf, maskOf-same, maskOf-bits}
 use Rattle.mask.proofs.Members.{bit-rest, low-lt, low-in}
 use Rattle.game.specs.Search.{Verdict, solved, failed, or-else, and-also, someValue, untried, eachValue}
 
@@ -171,11 +171,36 @@ module _ (skips : List ℕ → ℕ → Bool) (f : ℕ → Verdict) where
       pub each-on : (r : List ℕ) (left' : ℕ) → f a ≡ solved r → left' ≡ untried (skips r) a left → eachValue skips f 16 0 left' r ≡ whole
       each-on r left' g u = rw u (sym (each-step (solved r) g))
 
--- What the skipped values, as a mask, leave untried.
-pub untried-of : (g : ℕ → Bool) (a u skipped : ℕ) → skipped ≡ maskOf 16 g → untried (bit skipped) a u ≡ untried g a u
+-- The untried values m, where none is skipped.
+bit-untried : (a u m : ℕ) → m ≡ untried (bit 0) a u → (k : ℕ) → k < 16 → bit m k ≡ (ltb a k && (bit u k && true))
 unfolding untried
-untried-of g a u skipped e = maskOf-same 16 (λ b. ltb a b && (bit u b && not (bit skipped b))) (λ b. ltb a b && (bit u b && not (g b))) λ k l.
-    ap (λ y. ltb a k && (bit u k && not y)) (ap (λ s. bit s k) e ∙ bit-maskOf 16 g k l)
+bit-untried a u m o k l =
+    ap (λ x. bit x k) o ∙ bit-maskOf 16 (λ b. ltb a b && (bit u b && not (bit 0 b))) k l ∙ ap (λ z. ltb a k && (bit u k && not z)) (bit-of-zero k)
+
+-- Where there are none, none is left.
+pub untried-none : (g : ℕ → Bool) (a u m : ℕ) → m ≡ untried (bit 0) a u → m ≡ 0 → 0 ≡ untried g a u
+unfolding untried
+untried-none g a u m o z =
+    maskOf-bits 16 0 (omega arith)
+    ∙ maskOf-same 16 (bit 0) (λ b. ltb a b && (bit u b && not (g b))) λ k l.
+    bit-of-zero k ∙ less (ltb a k) (bit u k) (not (g k)) (sym (bit-untried a u m o k l) ∙ ap (λ x. bit x k) z ∙ bit-of-zero k)
+  where
+    less : (x y z : Bool) → (x && (y && true)) ≡ false → false ≡ (x && (y && z))
+    less true true z q = absurd (clash q tt)
+    less true false z q = refl
+    less false y z q = refl
+
+-- What those of them that are skipped, as a mask, leave untried.
+pub untried-of : (g : ℕ → Bool) (a u m skipped : ℕ) → m ≡ untried (bit 0) a u → skipped ≡ bitAnd m (maskOf 16 g) → untried (bit skipped) a u ≡ untried g a u
+unfolding untried
+untried-of g a u m skipped o e = maskOf-same 16 (λ b. ltb a b && (bit u b && not (bit skipped b))) (λ b. ltb a b && (bit u b && not (g b))) λ k l.
+    ap (λ y. ltb a k && (bit u k && not y)) (ap (λ s. bit s k) e ∙ bit-and m (maskOf 16 g) k ∙ ap₂ _&&_ (bit-untried a u m o k l) (bit-maskOf 16 g k l))
+    ∙ meet (ltb a k) (bit u k) (g k)
+  where
+    meet : (x y z : Bool) → (x && (y && not ((x && (y && true)) && z))) ≡ (x && (y && not z))
+    meet true true z = refl
+    meet true false z = refl
+    meet false y z = refl
 
 -- No value is skipped where rule 7 is not used.
 pub untried-off : (on : Bool) (g : ℕ → Bool) (a u skipped : ℕ) → on ≡ false → skipped ≡ 0 → untried (bit skipped) a u ≡ untried (λ b. on && g b) a u
@@ -183,5 +208,6 @@ unfolding untried
 untried-off on g a u skipped o e = maskOf-same 16 (λ b. ltb a b && (bit u b && not (bit skipped b))) (λ b. ltb a b && (bit u b && not (on && g b))) λ k l.
     ap (λ y. ltb a k && (bit u k && not y)) (ap (λ s. bit s k) e ∙ bit-of-zero k ∙ sym (ap (λ x. x && g k) o))
 
-pub untried-used : (on : Bool) (g : ℕ → Bool) (a u skipped : ℕ) → on ≡ true → skipped ≡ maskOf 16 g → untried (bit skipped) a u ≡ untried (λ b. on && g b) a u
-untried-used on g a u skipped o e = untried-of g a u skipped e ∙ ap (λ (x : Bool). untried (λ b. x && g b) a u) (sym o)
+pub untried-used : (on : Bool) (g : ℕ → Bool) (a u m skipped : ℕ) → on ≡ true → m ≡ untried (bit 0) a u → skipped ≡ bitAnd m (maskOf 16 g)
+    → untried (bit skipped) a u ≡ untried (λ b. on && g b) a u
+untried-used on g a u m skipped t o e = untried-of g a u m skipped o e ∙ ap (λ (x : Bool). untried (λ b. x && g b) a u) (sym t)

@@ -21,13 +21,14 @@ use Rattle.game.specs.Reasons.{explained, nextReasons}
 use Rattle.game.specs.Search.{Verdict, solved, failed, handed, handUp, someValue, eachValue, skippable, untried, search}
 use Rattle.arrays.specs.Arrays.{States}
 use Rattle.arrays.specs.Words.{listIn, whyIn, leafIn}
+use Rattle.skip_rule.specs.Skip.{LeafHolds}
 use Rattle.turn_words.specs.TurnRoom.{cleared, leafCleared, handedDown, leafTaken}
 use Rattle.turn_words.specs.TurnSets.{ReasonsBelow, Starts}
 use Rattle.turn_words.proofs.ChildLaws.{length-handedDown, handedDown-other, list-below, why-below, sets-below}
 use Rattle.turn_words.proofs.ReasonBounds.{Below, below-in, below-out, explained-below}
 use Rattle.search.specs.TurnReply.{replyIn, roomOf, Blank, TurnIn, Stands, Leaves, TurnReplies}
 use Rattle.search.specs.TurnSteps.{Enters, EntersTurn, LeavesUntried}
-use Rattle.search.proofs.StandLaws.{plays-in}
+use Rattle.search.proofs.StandLaws.{plays-in, leaf-holds}
 use Rattle.search.proofs.RoomTurns.{Mid, mid-start, mid-list, mid-why, leaves-leaf, leaf-handed, leaves-none, leaves-wiped, mid-lost, blank-lost, mid-won, leaf-up, size-back}
 use Rattle.search.proofs.TurnLaws.{entered-lost, entered-some, entered-each, some-left, child-turn}
 use Rattle.search.proofs.ValueLaws.{some-end, some-won, some-jumps, each-end}
@@ -227,6 +228,14 @@ module _ {n universal : ℕ} {near index rows : List ℕ} {S c d : ℕ} {w x : L
 
         won-leaf : (r' : List ℕ) → r' ≡ leafTaken (putBack h e) → leafIn n r' ≡ leafIn n e
         won-leaf = leaf-up n d a t x y h e (putBack h e) mid won (A .most) (A .unplayed) refl fits-x down leaves back
+
+        -- It breaks no constraint.
+        pub won-holds : won ≡ true → (r' : List ℕ) → r' ≡ leafTaken (putBack h e) → LeafHolds n near index rows r'
+        won-holds z r' g =
+            let s = A .stands in
+            let i = child (s .problem) (s .plays) (tries (s .problem) (s .states) (s .plays) (s .turn)) in
+            leaf-holds (s .problem) n universal near index rows (s .states) S d (d + 1) (s .plays ++ (a ∷ [])) v i (leafIn n e)
+            (said-won n _ won q e (R .reply .0 (s .problem) (s .states) (s .plays ++ (a ∷ [])) i) z) r' (won-leaf r' g) (won-mid r' g .small)
 
     -- THE EXISTENTIAL TURN -------------------------------------------------------------------------------------------------------
     module _ (u : bit universal d ≡ false) {J₀ : ℕ} (starts : Starts near d narrowed x J₀) where

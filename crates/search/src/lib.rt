@@ -9,6 +9,7 @@ ghost use Rattle.game.specs.Rule.{uses};
 ghost use Rattle.game.specs.Search.{handed as handedUp};
 ghost use Rattle.arrays.specs.Arrays.{InRange};
 ghost use Rattle.forward_rule.specs.Replies.{Nonzero};
+ghost use Rattle.skip_rule.specs.Skip.{LeafHolds};
 ghost use Rattle.turn_rules.specs.RuledTurn.{Stated};
 ghost use Rattle.turn_words.specs.TurnRoom.{cleared, leafCleared, leafTaken};
 ghost use Rattle.search.specs.TurnReply.{roomOf, Blank, Stands, TurnReplies};
@@ -179,17 +180,21 @@ fn untried_next(
     a: usize,
     w: &[u16],
 ) -> u16
-    requires { ⌜ (n ≤ 32) × (d < n) × (a < 16) × (128 ≤ length (now w)) × InRange (now index) ⌝ }
+    requires { ⌜ (n ≤ 32) × (d < n) × (a < 16) × (128 ≤ length (now w)) × InRange (now index) × LeafHolds n (now near) (now index) (now rows) (now w) ⌝ }
     ensures { λ r. ⌜ LeavesUntried n universal (now (near .entry)) (now (index .entry)) (now (rows .entry)) set d left a (now (w .entry)) r ⌝ }
 {
+    let m = untried_after(left, a, 0);
+    if m == 0 {
+        return 0;
+    }
     if in_use(set, 7) {
         return untried_after(
             left,
             a,
-            skippable_values(near, index, rows, n, universal, d, w),
+            skippable_values(near, index, rows, n, universal, d, m, w),
         );
     }
-    untried_after(left, a, 0)
+    m
 }
 
 // The turn after d plays, whose variable d is existential.

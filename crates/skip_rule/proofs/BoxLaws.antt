@@ -1,23 +1,24 @@
 -- Pairs, and the values that are left of i, a neighbour at a time.
-use mathlib.Core.Path.{_≡_, refl, sym, ap, ap₂, _∙_, fun-ext}
-use mathlib.Core.Bool.{Bool, true, false, not, _&&_}
+use mathlib.Core.Path.{_≡_, refl, sym, ap, ap₂, subst, _∙_, fun-ext}
+use mathlib.Core.Bool.{Bool, true, false, cond, _&&_}
 use mathlib.Core.List.{List}
 use Prim.Native.Nat.{ℕ, _+_, _%_, _^_, _<_}
 use native.Mathlib.Nat.{mod-eq-of-lt}
 use native.Mathlib.Numerals.{add-one}
 use lib.Bits.{bitAnd, and-mask, and-zero-l}
+use lib.Dec.{T, eqb→eq}
 use lib.ListN.{getD}
 use borrow.Author.Tests.{eq-eqb, ne-eqb}
 use Rattle.mask.specs.Range.{each, first}
 use Rattle.mask.specs.Mask.{bit, maskOf, rest, above}
-use Rattle.mask.proofs.Logic.{holds, fails, clash}
+use Rattle.mask.proofs.Logic.{same, holds, fails, clash, test, by-eq, and-in, and-out}
 use Rattle.mask.proofs.Range.{each-in, each-out}
-use Rattle.mask.proofs.Bits.{bit-of-zero}
-use Rattle.mask.proofs.Masks.{maskOf-and, maskOf-same, maskOf-bits, maskOf-lt}
+use Rattle.mask.proofs.Bits.{bit-and, bit-of-zero, bit-single}
+use Rattle.mask.proofs.Masks.{bit-maskOf, maskOf-and, maskOf-same, maskOf-bits, maskOf-lt}
 use Rattle.mask.proofs.Members.{each-rest}
-use Rattle.arrays.specs.Arrays.{commonIn}
-use Rattle.arrays.proofs.RowLaws.{and-assoc, and-full, full, common-lt}
-use Rattle.skip_rule.specs.Skip.{boxIn, boxGoes, goesAbove, boxesFit, leftBy, leftOf}
+use Rattle.arrays.specs.Arrays.{rowIn, commonIn}
+use Rattle.arrays.proofs.RowLaws.{and-assoc, full, common-lt}
+use Rattle.skip_rule.specs.Skip.{boxIn, boxGoes, goesAbove, testedAbove, LeafKeeps, boxesFit, leftBy, leftOf}
 
 -- A test of each member of a mask: the lowest fails; it passes, and the rest is left; none is left.
 module _ (v m : ℕ) (h : m < 2 ^ v) (z : ¬ (m ≡ 0)) (f : ℕ → Bool) (all : Bool) (e : all ≡ each v (bit m) f) (a : ℕ) (p : a ≡ first v (bit m)) where
@@ -70,12 +71,53 @@ pub left-by-is :
 unfolding leftBy
 left-by-is index rows later i w j m r e q = q ∙ ap (λ x. commonIn index rows j x i) e
 
--- All neighbours above j are to be asked.
-pub goes-start :
-    (near index rows : List ℕ) (later i : ℕ) (w : List ℕ) (j m v : ℕ) → m ≡ boxIn later i w j → v ≡ above (getD near j 0) j
-    → goesAbove near index rows later i w j ≡ each 32 (bit v) (boxGoes index rows later i w j m)
-unfolding goesAbove
-goes-start near index rows later i w j m v e q = ap₂ (λ y x. each 32 (bit y) (boxGoes index rows later i w j x)) (sym q) (sym e)
+-- What is tested above j, by its side.
+module _ (near : List ℕ) (later j m : ℕ) (e : m ≡ above (getD near j 0) j) where
+  pub tested-later : bit later j ≡ true → m ≡ testedAbove near later j
+  unfolding testedAbove
+  tested-later t = rw t e
+
+  pub tested-leaf : bit later j ≡ false → bitAnd m later ≡ testedAbove near later j
+  unfolding testedAbove
+  tested-leaf f = rw f (ap (λ m. bitAnd m later) e)
+
+module _ (near index rows : List ℕ) (later i : ℕ) (w : List ℕ) (j : ℕ) (keeps : LeafKeeps near index rows w j) where
+  -- A variable that is no later universal one has the leaf's value, if any.
+  box-single : (k c : ℕ) → bit later k ≡ false → T (bit (boxIn later i w k) c) → c ≡ getD w (96 + k) 0 % 16
+  box-single k c e t = by-eq k i
+      (λ q. absurd (clash (ap (λ m. bit m c) (sym (box-none later i w k q)) ∙ bit-of-zero c) t))
+      (λ d. eqb→eq c (getD w (96 + k) 0 % 16) (subst T (ap (λ m. bit m c) (sym (box-leaf later i w k d e)) ∙ bit-single (getD w (96 + k) 0 % 16) c) t))
+
+  -- So two of them go together, as the leaf's values do.
+  pair-goes : bit later j ≡ false → (k : ℕ) → bit later k ≡ false → T (bit (above (getD near j 0) j) k) → T (boxGoes index rows later i w j (boxIn later i w j) k)
+  unfolding boxGoes commonIn
+  pair-goes e k f t =
+      each-in 16 (bit (boxIn later i w k)) (bit (commonIn index rows j (boxIn later i w j) k)) λ c l s.
+      subst T (sym (bit-maskOf 16 (λ c. each 16 (bit (boxIn later i w j)) (λ a. bit (rowIn index rows j a k) c)) c l))
+      (each-in 16 (bit (boxIn later i w j)) (λ a. bit (rowIn index rows j a k) c) λ a h m.
+      subst (λ x. T (bit (rowIn index rows j x k) c)) (sym (box-single j a e m))
+      (subst (λ x. T (bit (rowIn index rows j (getD w (96 + j) 0 % 16) k) x)) (sym (box-single k c f s)) (keeps k t)))
+
+  tested-enough : goesAbove near index rows later i w j ≡ each 32 (bit (testedAbove near later j)) (boxGoes index rows later i w j (boxIn later i w j))
+  unfolding goesAbove testedAbove
+  tested-enough = go (bit later j) refl
+    where
+      m : ℕ
+      m = above (getD near j 0) j
+
+      g : ℕ → Bool
+      g = boxGoes index rows later i w j (boxIn later i w j)
+
+      go : (b : Bool) → bit later j ≡ b → each 32 (bit m) g ≡ each 32 (bit (cond b m (bitAnd m later))) g
+      go true e = refl
+      go false e = same (each 32 (bit m) g) (each 32 (bit (bitAnd m later)) g)
+          (λ t. each-in 32 (bit (bitAnd m later)) g λ k l s. each-out 32 (bit m) g t k l (and-out (bit m k) (bit later k) (subst T (bit-and m later k) s) .0))
+          (λ t. each-in 32 (bit m) g λ k l s.
+          test (bit later k) (λ r. each-out 32 (bit (bitAnd m later)) g t k l (subst T (sym (bit-and m later k)) (and-in (bit m k) (bit later k) s r))) (λ f. pair-goes e k f s))
+
+  -- The tested neighbours above j are to be asked.
+  pub goes-start : (m v : ℕ) → m ≡ boxIn later i w j → v ≡ testedAbove near later j → goesAbove near index rows later i w j ≡ each 32 (bit v) (boxGoes index rows later i w j m)
+  goes-start m v e q = tested-enough ∙ ap₂ (λ y x. each 32 (bit y) (boxGoes index rows later i w j x)) (sym q) (sym e)
 
 module _ (index rows : List ℕ) (later i : ℕ) (w : List ℕ) where
   pub left-lt : (m : ℕ) → leftOf index rows later i w m < 65536
@@ -105,10 +147,7 @@ module _ (index rows : List ℕ) (later i : ℕ) (w : List ℕ) where
       ∙ sym (maskOf-and 16 (λ b. f b j) (λ b. each 32 (bit (rest m)) (f b)))
       ∙ ap (λ y. bitAnd y (maskOf 16 (λ b. each 32 (bit (rest m)) (f b)))) (sym (maskOf-bits 16 _ (left-by-lt j)))
 
-  -- Every value stands before the first neighbour; one neighbour more; no value is left; no neighbour is left.
-  pub left-start : (m v : ℕ) → v ≡ m → leftOf index rows later i w m ≡ bitAnd 65535 (leftOf index rows later i w v)
-  left-start m v e = sym (ap (λ x. bitAnd 65535 (leftOf index rows later i w x)) e ∙ and-full (leftOf index rows later i w m) (left-lt m))
-
+  -- One neighbour more; no value is left; no neighbour is left.
   pub left-next :
       (out m all j r m' : ℕ) → out < 65536 → m < 2 ^ 32 → ¬ (m ≡ 0) → j ≡ first 32 (bit m) → r ≡ leftBy index rows later i w j → m' ≡ rest m
       → all ≡ bitAnd out (leftOf index rows later i w m) → all ≡ bitAnd (bitAnd out r) (leftOf index rows later i w m')

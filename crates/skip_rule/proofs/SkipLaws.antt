@@ -5,12 +5,13 @@ use mathlib.Core.List.{List}
 use Prim.Native.Nat.{ℕ, _+_, _%_, _^_, _<_}
 use native.Mathlib.Nat.{mod-eq-of-lt}
 use native.Mathlib.Omega.{arith}
+use lib.Bits.{bitAnd, and-zero-r}
 use lib.Dec.{T, eqb, ltb, eqb→eq, ltb→lt}
 use lib.ListN.{getD}
 use borrow.Author.Tests.{eq-eqb, ne-eqb, lt-ltb}
 use Rattle.mask.specs.Range.{each}
 use Rattle.mask.specs.Mask.{bit, maskOf, diff, above}
-use Rattle.mask.proofs.Logic.{same, true-holds, clash, test, by-eq, by-lt, and-in, and-out}
+use Rattle.mask.proofs.Logic.{same, holds, true-holds, clash, test, by-eq, by-lt, and-in, and-out}
 use Rattle.mask.proofs.Range.{each-in, each-out}
 use Rattle.mask.proofs.Bits.{bit-single, bit-of-zero, bit-diff, bit-ext}
 use Rattle.mask.proofs.Masks.{bit-maskOf, maskOf-lt, maskOf-same, maskOf-bits, diff-lt}
@@ -39,16 +40,11 @@ untried-is u a skipped m r h e q =
     order false true z = refl
     order false false z = refl
 
--- The mask of what a test skips stands for the test, where the rule is used; 0 does where it is not.
-pub untried-mask : (used : Bool) (f : ℕ → Bool) (a u r : ℕ) → r ≡ cond used (maskOf 16 f) 0 → untried (bit r) a u ≡ untried (λ b. used && f b) a u
-unfolding untried
-untried-mask used f a u r e =
-    maskOf-same 16 (λ b. ltb a b && (bit u b && not (bit r b))) (λ b. ltb a b && (bit u b && not (used && f b)))
-    λ b l. ap (λ x. ltb a b && (bit u b && not x)) (ap (λ m. bit m b) e ∙ go used b l)
-  where
-    go : (used : Bool) (b : ℕ) → b < 16 → bit (cond used (maskOf 16 f) 0) b ≡ (used && f b)
-    go true b l = bit-maskOf 16 f b l
-    go false b l = bit-of-zero b
+-- A neighbour of j above it is a variable above j.
+pub near-above : (P : Problem) (n u : ℕ) (near index rows : List ℕ) → States P n u near index rows → (j k : ℕ) → j < n → T (bit (above (getD near j 0) j) k) → (j < k) × (k < n)
+near-above P n u near index rows S j k l t =
+    let q = and-out (bit (getD near j 0) k) (ltb j k) (subst T (bit-above (getD near j 0) j k) t) in
+    (ltb→lt j k (q .1), by-lt k n (λ y. y) (λ y. absurd (clash (S .inside j k l y ∙ bit-of-zero k) (q .0))))
 
 module _ (P : Problem) (n u : ℕ) (near index rows : List ℕ) (S : States P n u near index rows) (i : ℕ) (h : i < n) (w : List ℕ) (small : LeafSmall n w) where
   abbrev box : ℕ → ℕ
@@ -99,12 +95,6 @@ module _ (P : Problem) (n u : ℕ) (near index rows : List ℕ) (S : States P n 
   common-in j m k c x y l f =
       subst T (sym (common-is j m k c x y l)) (each-in 16 (bit m) (λ a. bit (rowIn index rows j a k) c) λ a o s. subst T (S .row j a k c x o y l) (f a o s))
 
-  -- A neighbour of j above it is a variable above j.
-  near-above : (j k : ℕ) → j < n → T (bit (above (getD near j 0) j) k) → (j < k) × (k < n)
-  near-above j k l t =
-      let q = and-out (bit (getD near j 0) k) (ltb j k) (subst T (bit-above (getD near j 0) j k) t) in
-      (ltb→lt j k (q .1), by-lt k n (λ y. y) (λ y. absurd (clash (S .inside j k l y ∙ bit-of-zero k) (q .0))))
-
   -- The test of the pairs without i: what it gives, and what shows it.
   fits-out : T (boxesFit near index rows n (above u i) i w)
       → (j k a c : ℕ) → j < k → k < n → T (P .constrained j k) → a < 16 → T (bit (box j) a) → c < 16 → T (bit (box k) c) → T (P .compatible j a k c)
@@ -122,7 +112,7 @@ module _ (P : Problem) (n u : ℕ) (near index rows : List ℕ) (S : States P n 
   fits-in f =
       each-in n (λ j. true) (goesAbove near index rows (above u i) i w) λ j l _.
       each-in 32 (bit (above (getD near j 0) j)) (boxGoes index rows (above u i) i w j (box j)) λ k _ t.
-      let y = near-above j k l t in
+      let y = near-above P n u near index rows S j k l t in
       each-in 16 (bit (box k)) (bit (commonIn index rows j (box j) k)) λ c x v. common-in j (box j) k c l (y .1) x (λ a o s. f j k a c (y .0) (y .1) o s x v)
 
   -- The values that are left of i: what they give, and what shows one.
@@ -204,7 +194,7 @@ module _ (P : Problem) (n u : ℕ) (near index rows : List ℕ) (S : States P n 
       own : (b a : ℕ) → T (around-of b i a) → a ≡ b
       own b a t = eqb→eq a b (subst T (around-own b a) t)
 
-  -- All values of i at once, with the mask v of the later universal variables: the pairs without i fit; they do not; no value is left.
+  -- All values of i at once, with the mask v of the later universal variables.
   abbrev Skipped : ℕ
   Skipped = maskOf 16 (skippable P (listIn n w) i (leafIn n w))
 
@@ -218,23 +208,27 @@ module _ (P : Problem) (n u : ℕ) (near index rows : List ℕ) (S : States P n 
     skip-at : (b : ℕ) → b < 16 → skippable P (listIn n w) i (leafIn n w) b ≡ (boxesFit near index rows n v i w && bit (leftOf index rows v i w (getD near i 0)) b)
     skip-at b l = skip-is b l ∙ ap₂ (λ x m. x && bit m b) fits-at left-at
 
-    pub skips-left : (r : ℕ) → r ≡ leftOf index rows v i w (getD near i 0) → boxesFit near index rows n v i w ≡ true → r ≡ Skipped
-    skips-left r e t =
-        maskOf-bits 16 r (rw e (left-lt index rows v i w (getD near i 0)))
-        ∙ maskOf-same 16 (bit r) (skippable P (listIn n w) i (leafIn n w)) λ b l. sym (skip-at b l ∙ ap₂ (λ x m. x && bit m b) t (sym e))
+    abbrev left : ℕ
+    left = leftOf index rows v i w (getD near i 0)
 
-    pub skips-none : boxesFit near index rows n v i w ≡ false → 0 ≡ Skipped
-    skips-none t =
+    left-skipped : boxesFit near index rows n v i w ≡ true → left ≡ Skipped
+    left-skipped t =
+        maskOf-bits 16 left (left-lt index rows v i w (getD near i 0))
+        ∙ maskOf-same 16 (bit left) (skippable P (listIn n w) i (leafIn n w)) λ b l. sym (skip-at b l ∙ ap (λ x. x && bit left b) t)
+
+    none-skipped : boxesFit near index rows n v i w ≡ false → 0 ≡ Skipped
+    none-skipped t =
         maskOf-bits 16 0 (omega arith)
         ∙ maskOf-same 16 (bit 0) (skippable P (listIn n w) i (leafIn n w)) λ b l.
-        bit-of-zero b ∙ sym (skip-at b l ∙ ap (λ x. x && bit (leftOf index rows v i w (getD near i 0)) b) t)
+        bit-of-zero b ∙ sym (skip-at b l ∙ ap (λ x. x && bit left b) t)
 
-    pub skips-empty : (r : ℕ) → r ≡ leftOf index rows v i w (getD near i 0) → r ≡ 0 → 0 ≡ Skipped
-    skips-empty r e o =
-        maskOf-bits 16 0 (omega arith)
-        ∙ maskOf-same 16 (bit 0) (skippable P (listIn n w) i (leafIn n w)) λ b l.
-        bit-of-zero b ∙ sym (skip-at b l ∙ ap (λ x. boxesFit near index rows n v i w && x) (ap (λ m. bit m b) (sym e ∙ o) ∙ bit-of-zero b) ∙ no (boxesFit near index rows n v i w))
-      where
-        no : (x : Bool) → (x && false) ≡ false
-        no true = refl
-        no false = refl
+    -- Of the values m of i: the pairs without i fit; they do not; no value is left.
+    module _ (m : ℕ) where
+      pub skips-left : (r : ℕ) → r ≡ bitAnd m left → boxesFit near index rows n v i w ≡ true → r ≡ bitAnd m Skipped
+      skips-left r e t = e ∙ ap (bitAnd m) (left-skipped t)
+
+      pub skips-none : boxesFit near index rows n v i w ≡ false → 0 ≡ bitAnd m Skipped
+      skips-none t = sym (ap (bitAnd m) (sym (none-skipped t)) ∙ and-zero-r m)
+
+      pub skips-empty : (r : ℕ) → r ≡ bitAnd m left → r ≡ 0 → 0 ≡ bitAnd m Skipped
+      skips-empty r e o = test (boxesFit near index rows n v i w) (λ t. sym o ∙ skips-left r e (holds t)) skips-none

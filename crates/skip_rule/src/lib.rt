@@ -1,12 +1,14 @@
-// Rule 7 on the words of a turn: the values of its variable i that a leaf lets it skip, all at once. `later` is the mask
-// of the universal variables above i. Only neighbours are looked at. The functions that are `pub` are for the search.
+// Rule 7 on the words of a turn: of some values of its variable i those that a leaf lets it skip, all at once. `later` is
+// the mask of the universal variables above i. Only neighbours are looked at. The functions that are `pub` are for the
+// search.
 ghost use mathlib.Core.Path.{_≡_};
 ghost use Prim.Native.Nat.{_<_, _≤_};
+ghost use lib.Bits.{bitAnd};
 ghost use lib.ListN.{length, getD};
 ghost use Rattle.mask.specs.Mask.{bit};
 ghost use Rattle.game.specs.Search.{untried};
 ghost use Rattle.arrays.specs.Arrays.{InRange};
-ghost use Rattle.skip_rule.specs.Skip.{boxIn, boxGoes, goesAbove, boxesFit, leftBy, leftOf, Skips};
+ghost use Rattle.skip_rule.specs.Skip.{boxIn, boxGoes, goesAbove, testedAbove, LeafKeeps, LeafHolds, boxesFit, leftBy, leftOf, Skips};
 use arrays::common;
 use arrays::later_neighbours;
 use arrays::neighbours;
@@ -50,6 +52,19 @@ fn box_goes(
     within(box_of(later, i, k, w), common(index, rows, j, m, k))
 }
 
+// The neighbours above j whose values need a test. A leaf that is handed up breaks no constraint: pairs of two of its values
+// need none.
+fn tested_above(near: &[u32; 32], later: u32, j: usize) -> u32
+    requires { ⌜ j < 32 ⌝ }
+    ensures { λ r. ⌜ r ≡ testedAbove (now (near .entry)) later j ⌝ }
+{
+    let above = later_neighbours(near, j);
+    if !contains_32(later, j) {
+        return above & later;
+    }
+    above
+}
+
 // Whether the values of j and those of each neighbour above it go together.
 fn goes_above(
     near: &[u32; 32],
@@ -60,11 +75,11 @@ fn goes_above(
     j: usize,
     w: &[u16],
 ) -> bool
-    requires { ⌜ (j < 32) × (128 ≤ length (now w)) × InRange (now index) ⌝ }
+    requires { ⌜ (j < 32) × (128 ≤ length (now w)) × InRange (now index) × LeafKeeps (now near) (now index) (now rows) (now w) j ⌝ }
     ensures { λ r. ⌜ r ≡ goesAbove (now (near .entry)) (now (index .entry)) (now (rows .entry)) later i (now (w .entry)) j ⌝ }
 {
     let m = box_of(later, i, j, w);
-    let mut left = later_neighbours(near, j);
+    let mut left = tested_above(near, later, j);
     while left != 0 {
         let k = lowest_32(left) as usize;
         if !box_goes(index, rows, later, i, j, m, k, w) {
@@ -85,7 +100,7 @@ fn boxes_fit(
     i: usize,
     w: &[u16],
 ) -> bool
-    requires { ⌜ (n ≤ 32) × (128 ≤ length (now w)) × InRange (now index) ⌝ }
+    requires { ⌜ (n ≤ 32) × (128 ≤ length (now w)) × InRange (now index) × LeafHolds n (now near) (now index) (now rows) (now w) ⌝ }
     ensures { λ r. ⌜ r ≡ boxesFit (now (near .entry)) (now (index .entry)) (now (rows .entry)) n later i (now (w .entry)) ⌝ }
 {
     let mut j = 0;
@@ -113,19 +128,20 @@ fn left_by(
     common(index, rows, j, box_of(later, i, j, w), i)
 }
 
-// The values of i that do so for each neighbour.
+// The values of i in the mask m that do so for each neighbour.
 fn values_left(
     near: &[u32; 32],
     index: &[u16; 1024],
     rows: &[u16; 15888],
     later: u32,
     i: usize,
+    m: u16,
     w: &[u16],
 ) -> u16
     requires { ⌜ (i < 32) × (128 ≤ length (now w)) × InRange (now index) ⌝ }
-    ensures { λ r. ⌜ r ≡ leftOf (now (index .entry)) (now (rows .entry)) later i (now (w .entry)) (getD (now (near .entry)) i 0) ⌝ }
+    ensures { λ r. ⌜ r ≡ bitAnd m (leftOf (now (index .entry)) (now (rows .entry)) later i (now (w .entry)) (getD (now (near .entry)) i 0)) ⌝ }
 {
-    let mut out: u16 = 65535;
+    let mut out = m;
     let mut left = neighbours(near, i);
     while left != 0 {
         if out == 0 {
@@ -138,7 +154,7 @@ fn values_left(
     out
 }
 
-// The values of i that rule 7 skips after the leaf in the words.
+// The values of i in the mask m that rule 7 skips after the leaf in the words, which breaks no constraint.
 pub fn skippable_values(
     near: &[u32; 32],
     index: &[u16; 1024],
@@ -146,13 +162,14 @@ pub fn skippable_values(
     n: usize,
     universal: u32,
     i: usize,
+    m: u16,
     w: &[u16],
 ) -> u16
-    requires { ⌜ (i < n) × (n ≤ 32) × (128 ≤ length (now w)) × InRange (now index) ⌝ }
-    ensures { λ r. ⌜ Skips (now (near .entry)) (now (index .entry)) (now (rows .entry)) n universal i (now (w .entry)) r ⌝ }
+    requires { ⌜ (i < n) × (n ≤ 32) × (128 ≤ length (now w)) × InRange (now index) × LeafHolds n (now near) (now index) (now rows) (now w) ⌝ }
+    ensures { λ r. ⌜ Skips (now (near .entry)) (now (index .entry)) (now (rows .entry)) n universal i m (now (w .entry)) r ⌝ }
 {
     let later = members_above_32(universal, i);
-    let out = values_left(near, index, rows, later, i, w);
+    let out = values_left(near, index, rows, later, i, m, w);
     if out == 0 {
         return 0;
     }

@@ -8,15 +8,13 @@ use lib.Dec.{T}
 use lib.ListN.{getD, length, set}
 use lib.Seq.{getD-set-other}
 use borrow.Author.Tests.{eq-eqb, lt-ltb, le-ltb, ltb-true}
-use Rattle.mask.specs.Range.{some}
-use Rattle.mask.specs.Mask.{bit}
 use Rattle.mask.proofs.Logic.{holds, true-holds, clash, test, and-out}
-use Rattle.mask.proofs.Range.{some-in, first-of}
+use Rattle.mask.proofs.Range.{first-of}
 use Rattle.mask.proofs.Masks.{empty-some}
 use Rattle.game.specs.Problem.{Problem}
 use Rattle.game.specs.Lists.{domains}
 use Rattle.game.specs.Support.{empty}
-use Rattle.game.specs.Arc.{barred, arcLoss}
+use Rattle.game.specs.Arc.{arcLoss}
 use Rattle.game.specs.Forward.{forwardLoss, forwardNamed}
 use Rattle.game.specs.LookAhead.{aheadNamed}
 use Rattle.game.specs.Reasons.{Sheet, surviving, revise, pass, sameDomains, passes, revisions, loop, explainArc, explainAhead}
@@ -31,6 +29,7 @@ use Rattle.arc_rule.specs.ArcRule.{Arced}
 use Rattle.forward_rule.specs.Replies.{Nonzero, aheadValue, aheadVariable, conflictIn}
 use Rattle.forward_rule.proofs.RuleLaws.{loss-named, ahead-named, conflict-before}
 use Rattle.turn_rules.specs.RuledTurn.{Replied}
+use Rattle.turn_rules.proofs.AfterArc.{empty-loses}
 
 -- Revisions keep the mask of a universal variable.
 module _ (P : Problem) (j : ℕ) (u : P .universal j ≡ true) where
@@ -65,10 +64,8 @@ module _ (P : Problem) (j : ℕ) (u : P .universal j ≡ true) where
 
 -- An emptied existential domain is a loss of rule 1.
 emptied-loses : (P : Problem) (l : List ℕ) (j : ℕ) → j < P .n → P .universal j ≡ false → getD l j 0 ≡ 0 → T (arcLoss P (domains l))
-unfolding arcLoss empty domains
-emptied-loses P l j h u e = some-in (P .n) (λ x. true)
-    (λ x. cond (P .universal x) (some 16 (bit (getD l x 0)) (λ a. some (P .n) (P .constrained x) (barred P (domains l) x a))) (not (some 16 (bit (getD l x 0)) (λ a. true)))) j h tt
-    (rw u (true-holds (sym (empty-some 16 (getD l j 0) (omega arith)) ∙ eq-eqb (getD l j 0) 0 e)))
+unfolding empty domains
+emptied-loses P l j h u e = empty-loses P (domains l) j h u (true-holds (sym (empty-some 16 (getD l j 0) (omega arith)) ∙ eq-eqb (getD l j 0) 0 e))
 
 module _ (P : Problem) (n universal : ℕ) (near index rows : List ℕ) (st : States P n universal near index rows) (w : List ℕ) (long : 96 ≤ length w) where
   -- The code of rule 1.

@@ -6,5 +6,7 @@ pub mod ChainLaws
 pub mod CheckLaws
 -- Rules 1 and 3.
 pub mod ArcAheadLaws
+-- Rule 3 after rule 1.
+pub mod AfterArc
 -- The rules of a turn by the rule set.
 pub mod TurnLaws

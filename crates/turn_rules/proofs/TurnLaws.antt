@@ -1,6 +1,6 @@
 -- The rules of a turn by the rule set, one after another.
 use mathlib.Core.Path.{_≡_, sym, ap, ap₂, subst, _∙_}
-use mathlib.Core.Bool.{Bool, true, false, _&&_}
+use mathlib.Core.Bool.{Bool, true, false, not, _&&_}
 use mathlib.Core.List.{List}
 use Prim.Native.Nat.{ℕ, suc, _-_, _≤_, _<_}
 use native.Mathlib.Omega.{arith}
@@ -8,23 +8,28 @@ use lib.Dec.{ltb}
 use lib.ListN.{length}
 use borrow.Author.Tests.{ltb-true}
 use Rattle.mask.specs.Mask.{bit}
-use Rattle.mask.proofs.Logic.{holds, true-holds, and-out}
+use Rattle.mask.proofs.Logic.{holds, true-holds, test, and-out}
 use Rattle.game.specs.Problem.{Problem}
 use Rattle.game.specs.Rule.{uses}
-use Rattle.game.specs.Reasons.{Ruling, chain, choose, explainChecks, explainArc, explainAhead, explained}
+use Rattle.game.specs.Reasons.{Ruling, idle, chain, choose, explainChecks, explainArc, explainAhead, explained}
 use Rattle.arrays.specs.Arrays.{States}
 use Rattle.arrays.specs.Words.{listIn, whyIn}
 use Rattle.arrays.proofs.WordLaws.{length-holding}
 use Rattle.turn_rules.specs.RuledTurn.{Replied, Plays}
-use Rattle.turn_rules.proofs.ChainLaws.{chain-lost, chain-on}
+use Rattle.turn_rules.proofs.ChainLaws.{chain-lost, chain-on, chosen, left-out}
+use Rattle.turn_rules.proofs.AfterArc.{ahead-omitted}
 
 pub uses-is : (S k : ℕ) → 1 ≤ k → bit S (k - 1) ≡ uses S k
 unfolding uses
 uses-is S k h = let e : k ≡ suc (k - 1) = omega arith in sym (ap (uses S) e)
 
--- Look ahead is used below n only.
-pub ahead-below : (S d n : ℕ) (b : Bool) → b ≡ (ltb d n && uses S 3) → b ≡ true → d < n
-ahead-below S d n b e f = ltb-true d n (holds (and-out (ltb d n) (uses S 3) (true-holds (sym e ∙ f)) .0))
+-- Look ahead is left out where rule 1 is used, and used below n only.
+pub ahead-off : (on u b : Bool) → on ≡ u → on ≡ true → false ≡ (not u && b)
+ahead-off on u b e t = ap (λ u. not u && b) (sym t ∙ e)
+
+pub ahead-below : (S d n : ℕ) (b : Bool) → b ≡ (not (uses S 1) && (ltb d n && uses S 3)) → b ≡ true → d < n
+ahead-below S d n b e f =
+    ltb-true d n (holds (and-out (ltb d n) (uses S 3) (and-out (not (uses S 1)) (ltb d n && uses S 3) (true-holds (sym e ∙ f)) .1) .0))
 
 module _ (P : Problem) (n universal : ℕ) (near index rows : List ℕ) (st : States P n universal near index rows)
     (S c d : ℕ) (p w : List ℕ) (plays : Plays c d p w) (long : 96 ≤ length w) where
@@ -60,11 +65,32 @@ module _ (P : Problem) (n universal : ℕ) (near index rows : List ℕ) (st : St
       turn-narrowed g = go-on v lost' q'
           (chain-lost (choose (uses S 1) (explainArc P)) (choose (ltb d n && uses S 3) (explainAhead P d)) n u v (listIn n u) (whyIn n u) lost' q' g s')
 
-      -- What rule 3 says.
-      pub turn-ends : lost' ≡ false → (b3 : Bool) → b3 ≡ (ltb d n && uses S 3) → (z : Bool) (y : ℕ) → Replied n v v z y (choose b3 (explainAhead P d) (listIn n v) (whyIn n v))
-          → Replied n w v z y (explained P S c p (listIn n w) (whyIn n w))
-      turn-ends g b3 e3 z y r =
+      long-next : 96 ≤ length u
+      long-next =
           let o = choose (uses S 2) (explainChecks P (d - c) c p) (listIn n w) (whyIn n w) in
           let k = ap length (t' .words) ∙ length-holding n w (o .list) (o .why) in
-          go-on v z y (chain-on n (st .most) u (omega arith) (choose (uses S 1) (explainArc P)) (choose (ltb d n && uses S 3) (explainAhead P d)) v v lost' z q' y g s'
-          (subst (λ (b : Bool). Replied n v v z y (choose b (explainAhead P d) (listIn n v) (whyIn n v))) e3 r))
+          omega arith
+
+      -- Rule 3 beside rule 1, where it is left out.
+      beside : lost' ≡ false → uses S 1 ≡ true → (z : Bool) (y : ℕ) → Replied n v v z y (idle (listIn n v) (whyIn n v))
+          → Replied n v v z y (choose (ltb d n && uses S 3) (explainAhead P d) (listIn n v) (whyIn n v))
+      unfolding choose
+      beside g e z y r = test (ltb d n && uses S 3)
+          (λ t. chosen (ltb d n && uses S 3) (explainAhead P d) n v v (listIn n v) (whyIn n v) z y (holds t)
+          (ahead-omitted P n (st .size) (st .most) u v long-next lost' q' (subst (λ (b : Bool). Replied n u v lost' q' (choose b (explainArc P) (listIn n u) (whyIn n u))) e s') g
+          d (ltb-true d n (holds (and-out (ltb d n) (uses S 3) t .0))) z y r))
+          (λ f. left-out (ltb d n && uses S 3) (explainAhead P d) n v v (listIn n v) (whyIn n v) z y f r)
+
+      said : lost' ≡ false → (b3 : Bool) → b3 ≡ (not (uses S 1) && (ltb d n && uses S 3)) → (z : Bool) (y : ℕ) → Replied n v v z y (choose b3 (explainAhead P d) (listIn n v) (whyIn n v))
+          → Replied n v v z y (choose (ltb d n && uses S 3) (explainAhead P d) (listIn n v) (whyIn n v))
+      unfolding choose
+      said g b3 e3 z y r =
+          let r' : (x : Bool) → uses S 1 ≡ x → Replied n v v z y (choose (not x && (ltb d n && uses S 3)) (explainAhead P d) (listIn n v) (whyIn n v)) =
+          λ x e. subst (λ (b : Bool). Replied n v v z y (choose b (explainAhead P d) (listIn n v) (whyIn n v))) (e3 ∙ ap (λ x. not x && (ltb d n && uses S 3)) e) r in
+          test (uses S 1) (λ t. beside g (holds t) z y (r' true (holds t))) (λ f. r' false f)
+
+      -- What rule 3 says.
+      pub turn-ends : lost' ≡ false → (b3 : Bool) → b3 ≡ (not (uses S 1) && (ltb d n && uses S 3)) → (z : Bool) (y : ℕ) → Replied n v v z y (choose b3 (explainAhead P d) (listIn n v) (whyIn n v))
+          → Replied n w v z y (explained P S c p (listIn n w) (whyIn n w))
+      turn-ends g b3 e3 z y r =
+          go-on v z y (chain-on n (st .most) u long-next (choose (uses S 1) (explainArc P)) (choose (ltb d n && uses S 3) (explainAhead P d)) v v lost' z q' y g s' (said g b3 e3 z y r))

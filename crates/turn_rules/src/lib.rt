@@ -1,7 +1,7 @@
 // Rules 2, 1 and 3 of a turn, one after another: a loss ends the turn. Every public function here is for the crate of the
 // search.
 ghost use mathlib.Core.Path.{_≡_};
-ghost use mathlib.Core.Bool.{true, _&&_};
+ghost use mathlib.Core.Bool.{true, not, _&&_};
 ghost use Prim.Native.Nat.{_≤_, _<_};
 ghost use lib.Dec.{ltb};
 ghost use lib.ListN.{length};
@@ -85,10 +85,13 @@ pub fn in_use(set: u8, rule: usize) -> bool
     contains(set as u16, rule - 1)
 }
 
-// Whether look ahead is used after d plays.
+// Whether look ahead is used after d plays and may find a loss: beside rule 1 it finds none.
 fn ahead_used(set: u8, n: usize, d: usize) -> bool
-    ensures { λ r. ⌜ r ≡ (ltb d n && uses set 3) ⌝ }
+    ensures { λ r. ⌜ r ≡ (not (uses set 1) && (ltb d n && uses set 3)) ⌝ }
 {
+    if in_use(set, 1) {
+        return false;
+    }
     if d < n { in_use(set, 3) } else { false }
 }
 

@@ -16,7 +16,7 @@ use Rattle.mask.proofs.Members.{low-lt, rest-lt}
 use Rattle.search.specs.TurnReply.{roomOf}
 use Rattle.search.proofs.StandLaws.{stated, checked, nonzero, last-stands, last-replies}
 use Rattle.search.proofs.LoopLaws.{SomeLoop, EachLoop, each-less}
-use Rattle.search.proofs.WholeTurn.{AfterRules, Trying, Answered, rules-lost, left-some, child-stands, child-blank, child-fits, back-deep, mid-fits, some-begins, some-ends, some-wins, some-leaves, some-goes-on, each-begins, each-ends, each-fails, each-goes-on, each-shrinks, won-mid}
+use Rattle.search.proofs.WholeTurn.{AfterRules, Trying, Answered, rules-lost, left-some, child-stands, child-blank, child-fits, back-deep, mid-fits, some-begins, some-ends, some-wins, some-leaves, some-goes-on, each-begins, each-ends, each-fails, each-goes-on, each-shrinks, won-mid, won-holds}
 use Rattle.search.proofs.existential_turn.Reads as existential-turn
 use Rattle.search.proofs.existential_turn.Kinds as existential-turn-kinds
 use Rattle.search.proofs.+existential_turn+turn+universal_turn.Lts-existential_turn as E
@@ -251,7 +251,7 @@ pub +existential-turn+turn+universal-turn-spec : {M : Type 1} → statement M
     (λ c. search needs)
     (λ c. let k = c .before .before .before .before .before .before .before .before in let A = U-after t (k .before .before .before .before .before .before .before .before .before .before .before .before) in let q = k .before .before .before .before .before .before .before .before .before .if1 .left in let B = U-trying t (k .before .before .before .before) in let R = U-answered t k in let u = k .before .before .before .before .before .before .before .before .before .before .before .before .before .before .before .pre .1 .2 in let l = k .before .before .before .before .before .before .before .before .loop .inv in let o = c .before .before .lost-after .ensures in each-fails A q u l B R (not-true _ (c .before .before .before .before .if2 .taken)) _ _ _ (o .0) (o .1) (o .2))
     (λ c κs. let k = c .before .before .before .before .before in let A = U-after t (k .before .before .before .before .before .before .before .before .before .before .before .before) in let q = k .before .before .before .before .before .before .before .before .before .if1 .left in let B = U-trying t (k .before .before .before .before) in let R = U-answered t k in back-deep A q B R)
-    (λ c κs. let k = c .before .before .before .before .before .before .before .before .before in let A = U-after t (k .before .before .before .before .before .before .before .before .before .before .before .before) in let q = k .before .before .before .before .before .before .before .before .before .if1 .left in let B = U-trying t (k .before .before .before .before) in let R = U-answered t k in let l = k .before .before .before .before .before .before .before .before .loop .inv in (search needs, search needs, omega (arith, k .before .before .before .before .before .before .lowest .ensures, low-lt 16 _ (l .small) (k .before .before .before .before .before .before .before .loop-test .taken)), mid-fits A (won-mid A q B R _ (c .before .before .before .take-leaf .ensures)), k .before .before .before .before .before .before .before .before .before .before .before .before .before .before .before .pre .1 .4))
+    (λ c κs. let k = c .before .before .before .before .before .before .before .before .before in let A = U-after t (k .before .before .before .before .before .before .before .before .before .before .before .before) in let q = k .before .before .before .before .before .before .before .before .before .if1 .left in let B = U-trying t (k .before .before .before .before) in let R = U-answered t k in let l = k .before .before .before .before .before .before .before .before .loop .inv in (search needs, search needs, omega (arith, k .before .before .before .before .before .before .lowest .ensures, low-lt 16 _ (l .small) (k .before .before .before .before .before .before .before .loop-test .taken)), mid-fits A (won-mid A q B R _ (c .before .before .before .take-leaf .ensures)), k .before .before .before .before .before .before .before .before .before .before .before .before .before .before .before .pre .1 .4, won-holds A q B R (not-false _ (c .before .before .before .before .before .if2 .left)) _ (c .before .before .before .take-leaf .ensures)))
     (λ c. let k = c .before .before .before .before .before .before .before .before .before .before in let A = U-after t (k .before .before .before .before .before .before .before .before .before .before .before .before) in let q = k .before .before .before .before .before .before .before .before .before .if1 .left in let B = U-trying t (k .before .before .before .before) in let R = U-answered t k in let u = k .before .before .before .before .before .before .before .before .before .before .before .before .before .before .before .pre .1 .2 in let l = k .before .before .before .before .before .before .before .before .loop .inv in let z = each-shrinks A q u l B R _ (c .before .before .before .before .take-leaf .ensures) _ (c .untried-next .ensures) in omega arith)
     (λ c. let k = c .before .before .before .before .before .before .before .before .before .before in let A = U-after t (k .before .before .before .before .before .before .before .before .before .before .before .before) in let q = k .before .before .before .before .before .before .before .before .before .if1 .left in let B = U-trying t (k .before .before .before .before) in let R = U-answered t k in let u = k .before .before .before .before .before .before .before .before .before .before .before .before .before .before .before .pre .1 .2 in let l = k .before .before .before .before .before .before .before .before .loop .inv in each-goes-on A q u l B R (not-false _ (c .before .before .before .before .before .before .if2 .left)) _ (c .before .before .before .before .take-leaf .ensures) _ (c .untried-next .ensures))
     (λ c κs. mid-fits (U-after t (c .before .before .before .before .before .before)) (c .before .before .loop .inv .mid))

@@ -17,7 +17,7 @@ loop-holds : tie.Need-loop-holds Inv-loop μ-loop
 loop-holds c = (search needs, fit-none _ _ _ _ _ _)
 
 goes-above-requires : tie.Need-goes-above-requires Inv-loop μ-loop
-goes-above-requires c κs = search needs
+goes-above-requires c κs = let p = c .before .before .before .pre in (search needs, p .1, p .2, p .3 _ (c .loop-test .taken))
 
 returns : tie.Need-returns Inv-loop μ-loop
 returns c = fit-stop _ _ _ _ _ _ _ _ (c .before .before .loop-test .taken) (sym (c .before .goes-above .ensures) ∙ not-true _ (c .if1 .taken))

@@ -19,11 +19,11 @@ abbrev μ-loop : tie.MeasureT-loop
 box-of-requires : tie.Need-box-of-requires Inv-loop μ-loop
 box-of-requires c κs = search needs
 
-later-neighbours-requires : tie.Need-later-neighbours-requires Inv-loop μ-loop
-later-neighbours-requires c κs = search needs
+tested-above-requires : tie.Need-tested-above-requires Inv-loop μ-loop
+tested-above-requires c κs = search needs
 
 loop-holds : tie.Need-loop-holds Inv-loop μ-loop
-loop-holds c = (search needs, goes-start _ _ _ _ _ _ _ _ _ (c .before .box-of .ensures) (c .later-neighbours .ensures))
+loop-holds c = (search needs, goes-start _ _ _ _ _ _ _ (c .before .before .before .pre .3) _ _ (c .before .box-of .ensures) (c .tested-above .ensures))
 
 lowest-32-requires : tie.Need-lowest-32-requires Inv-loop μ-loop
 lowest-32-requires c κs = search needs
@@ -64,7 +64,7 @@ goes-above-spec =
     Inv-loop
     μ-loop
     box-of-requires
-    later-neighbours-requires
+    tested-above-requires
     loop-holds
     lowest-32-requires
     cast-k

@@ -5,22 +5,23 @@ use lib.ListN.{getD}
 use mathlib.Core.Path.{_≡_}
 use native.Mathlib.Omega.{arith}
 use Rattle.mask.proofs.Members.{low-lt, rest-lt}
-use Rattle.skip_rule.proofs.BoxLaws.{left-start, left-next, left-stop, left-end}
+use Rattle.skip_rule.proofs.BoxLaws.{left-next, left-stop, left-end}
 use Rattle.skip_rule.specs.Skip.{leftOf}
 use Rattle.skip_rule.proofs.values_left.Statement.{statement}
 use Rattle.skip_rule.proofs.values_left.Tie as tie
 
 abbrev Inv-loop : tie.InvT-loop
-Inv-loop near index rows later i w out₀ left₀ out left = (out < 65536) × (left < 4294967296) × (leftOf index rows later i w (getD near i 0) ≡ bitAnd out (leftOf index rows later i w left))
+Inv-loop near index rows later i m w out₀ left₀ out left =
+    (out < 65536) × (left < 4294967296) × (bitAnd m (leftOf index rows later i w (getD near i 0)) ≡ bitAnd out (leftOf index rows later i w left))
 
 abbrev μ-loop : tie.MeasureT-loop
-μ-loop near index rows later i w out₀ left₀ out left = left
+μ-loop near index rows later i m w out₀ left₀ out left = left
 
 neighbours-requires : tie.Need-neighbours-requires Inv-loop μ-loop
 neighbours-requires c κs = search needs
 
 loop-holds : tie.Need-loop-holds Inv-loop μ-loop
-loop-holds c = (search needs, search needs, left-start _ _ _ _ _ _ _ (c .neighbours .ensures))
+loop-holds c = (search needs, search needs, rw (c .neighbours .ensures))
 
 returns : tie.Need-returns Inv-loop μ-loop
 returns c = left-stop _ _ _ _ _ _ _ _ (c .if1 .taken) (c .before .before .loop .inv .2)
