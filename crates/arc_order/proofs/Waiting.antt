@@ -1,20 +1,21 @@
 -- Rule 1's passes with most looks left out. Between two turns of a variable y it need look again only at the neighbours that lost values
 -- meanwhile. One mask tells: at the turn of x its members below x lost values in this pass, the others in the pass before.
-use mathlib.Core.Path.{_≡_, refl, _∙_}
-use mathlib.Core.Bool.{Bool, true, false, cond, _&&_, _||_}
+use mathlib.Core.Path.{_≡_, refl, sym, ap, _∙_}
+use mathlib.Core.Bool.{Bool, true, false, cond, not, _&&_, _||_}
 use mathlib.Core.Logic.{_⊎_, inl, inr}
 use mathlib.Core.List.{List}
 use Prim.Native.Nat.{ℕ, zero, suc, _*_, _≤_, _<_}
 use native.Mathlib.Omega.{arith}
 use lib.Dec.{T}
 use lib.ListN.{getD, length}
+use lib.Seq.{getD-set-other}
 use Rattle.mask.specs.Mask.{bit}
-use Rattle.mask.proofs.Logic.{clash, and-in, or-left, or-right, by-eq, by-lt}
+use Rattle.mask.proofs.Logic.{clash, test, and-in, or-left, or-right, by-eq, by-lt}
 use Rattle.mask.proofs.Bits.{bit-of-zero}
 use Rattle.game.specs.Problem.{Problem}
-use Rattle.game.specs.Reasons.{Sheet, loop, revise, pass, sameDomains, passes, revisions}
+use Rattle.game.specs.Reasons.{Sheet, loop, surviving, revise, pass, sameDomains, passes, revisions}
 use Rattle.arc_order.specs.Over.{over}
-use Rattle.arc_order.proofs.Revising.{Still, still-same, still-own, still-other, revise-falls, revise-long, revise-small}
+use Rattle.arc_order.proofs.Revising.{Still, Revised, kept, cut, revise-cases, still-same, still-own, still-other, revise-falls, revise-long, revise-small}
 use Rattle.arc_order.proofs.Loops.{loop-idle, loop-keeps, loop-reaches, over-loop}
 
 -- At the turn of x variable y has still to look at k: it has not looked at all and k is one of those to be looked at; or k has lost
@@ -102,9 +103,9 @@ module _ (P : Problem) where
   abbrev pub Ready : ℕ → ℕ → ℕ → Sheet → Type 0
   Ready all dirty x s = (y k : ℕ) → y < n → k < n → Still P (s .list) y k ⊎ Waits all dirty x y k
 
-  -- Where every variable has still to look at all, nothing need be known.
-  pub ready-first : (all dirty : ℕ) (s : Sheet) → ((k : ℕ) → k < n → T (bit all k)) → Ready all dirty 0 s
-  ready-first all dirty s h y k ly lk = inr (fresh (omega arith) (h k lk))
+  -- At first every variable has still to look at those of a mask: of the others nothing dies.
+  pub ready-first : (all dirty : ℕ) (s : Sheet) → ((y k : ℕ) → y < n → k < n → bit all k ≡ false → Still P (s .list) y k) → Ready all dirty 0 s
+  ready-first all dirty s h y k ly lk = test (bit all k) (λ t. inr (fresh (omega arith) t)) (λ f. inl (h y k ly lk f))
 
   -- The neighbours to look at in the turn of x are in these masks.
   pub ready-look : (all dirty x : ℕ) (s : Sheet) → x < n → Ready all dirty x s → (k : ℕ) → k < n → (constrained x k && (bit dirty k || bit all k)) ≡ false → Still P (s .list) x k
@@ -185,3 +186,33 @@ module _ (P : Problem) where
       go y k (inr (passed t l m)) = absurd (clash (bit-of-zero k) t)
       go y k (inr (above t l m)) = absurd (clash (bit-of-zero k) t)
       go y k (inr (below t l m)) = absurd (clash (bit-of-zero k) t)
+
+  -- Revisions keep the mask of a universal variable.
+  module _ (j : ℕ) (u : universal j ≡ true) where
+    revise-keeps : (x k : ℕ) (s : Sheet) → getD (revise P x k s .list) j 0 ≡ getD (s .list) j 0
+    revise-keeps x k s = go (revise P x k s) (revise-cases P x k s)
+      where
+        go : (r : Sheet) → Revised P x k s r → getD (r .list) j 0 ≡ getD (s .list) j 0
+        go r (kept h) = refl
+        go r (cut t c z) = getD-set-other (s .list) x j (surviving P (s .list) x k) 0 (λ e. clash (ap not (ap universal (sym e) ∙ u)) t)
+
+    pass-keeps : (s : Sheet) → getD (pass P s .list) j 0 ≡ getD (s .list) j 0
+    unfolding pass
+    pass-keeps s = loop-keeps n turn Kept (λ x t _ g. loop-keeps n (λ k. revise P x k) Kept (λ k t _ g. revise-keeps x k t ∙ g) n 0 (omega arith) t g) n 0 (omega arith) s refl
+      where
+        Kept : Sheet → Type 0
+        Kept t = getD (t .list) j 0 ≡ getD (s .list) j 0
+
+    passes-keep : (v : ℕ) (s : Sheet) → getD (passes P v s .list) j 0 ≡ getD (s .list) j 0
+    unfolding passes
+    passes-keep zero s = refl
+    passes-keep (suc v) s = go (sameDomains P (pass P s .list) (s .list)) (pass-keeps s) (passes-keep v (pass P s) ∙ pass-keeps s)
+      where
+        go : (b : Bool) → getD (pass P s .list) j 0 ≡ getD (s .list) j 0 → getD (passes P v (pass P s) .list) j 0 ≡ getD (s .list) j 0
+            → getD (cond b (pass P s) (passes P v (pass P s)) .list) j 0 ≡ getD (s .list) j 0
+        go true h k = h
+        go false h k = k
+
+    pub revisions-keep : (s : Sheet) → getD (revisions P s .list) j 0 ≡ getD (s .list) j 0
+    unfolding revisions
+    revisions-keep s = passes-keep (16 * n) s

@@ -6,3 +6,5 @@ pub mod StepLaws
 pub mod Support
 -- On words that hold a list and its reasons, the removals leave words that hold rule 1's.
 pub mod Sheets
+-- The domains that a pass leaves as they are.
+pub mod TouchLaws

@@ -10,9 +10,8 @@ use lib.Bits.{bitAnd, bitOr}
 use lib.ListN.{getD, length, set, List·getD-eq-default}
 use borrow.Author.Tests.{eq-eqb, ne-eqb, eqb-true}
 use Rattle.mask.specs.Mask.{bit}
-use Rattle.mask.proofs.Logic.{clash, true-holds, and-out, by-lt}
+use Rattle.mask.proofs.Logic.{holds, fails, clash, true-holds, and-out, by-lt}
 use Rattle.mask.proofs.Bits.{bit-and, bit-or, bit-diff, bit-single, bit-of-zero}
-use Rattle.mask.proofs.Masks.{bit-not}
 use Rattle.game.specs.Problem.{Problem}
 use Rattle.game.specs.Reasons.{Sheet, loop, cause, surviving, revise, pass, revisions}
 use Rattle.arrays.specs.Arrays.{States}
@@ -22,9 +21,9 @@ use Rattle.theory.proofs.SearchNotions.{Formed}
 use Rattle.theory.proofs.Revisions.{revisions-loop}
 use Rattle.arc_order.specs.Over.{over}
 use Rattle.arc_order.proofs.Loops.{loop-from, loop-beside, over-longer, over-made}
-use Rattle.arc_order.proofs.Revising.{Revised, kept, cut, revised, revise-cases}
+use Rattle.arc_order.proofs.Revising.{Still, Revised, kept, cut, revised, revise-cases}
 use Rattle.arc_order.proofs.Waiting.{turn, Sized, Ready, revise-sized, turn-sized, turn-over, turn-falls, turn-universal, ready-first, ready-look, ready-turn, ready-next, ready-none}
-use Rattle.arc_passes.specs.Passes.{leaves, causeOf, lessened, reviseIn, turnIn, lostAt, marked, Progress, progress, passIn, passesIn, everyone, removedIn}
+use Rattle.arc_passes.specs.Passes.{leaves, causeOf, lessened, reviseIn, turnIn, lostAt, marked, Progress, progress, passIn, passesIn, removedIn, Rests}
 use Rattle.arc_passes.proofs.Support.{surviving-leaves, cause-of}
 
 -- The list and the reasons that words hold, and words with others in their places.
@@ -35,7 +34,7 @@ abbrev pub holdingSheet : ℕ → List ℕ → Sheet → List ℕ
 holdingSheet n w s = holding n w (s .list) (s .why)
 
 -- A marked mask differs at x alone, and has x where it lost values.
-marked-off : (dirty x : ℕ) (lost : Bool) (k : ℕ) → ¬ (k ≡ x) → bit (marked dirty x lost) k ≡ bit dirty k
+pub marked-off : (dirty x : ℕ) (lost : Bool) (k : ℕ) → ¬ (k ≡ x) → bit (marked dirty x lost) k ≡ bit dirty k
 unfolding marked
 marked-off dirty x true k d = bit-or dirty (2 ^ x) k ∙ rw (bit-single x k, ne-eqb k x d) (go (bit dirty k))
   where
@@ -48,7 +47,7 @@ marked-off dirty x false k d = bit-diff dirty (2 ^ x) k ∙ rw (bit-single x k, 
     go true = refl
     go false = refl
 
-marked-on : (dirty x : ℕ) → T (bit (marked dirty x true) x)
+pub marked-on : (dirty x : ℕ) → T (bit (marked dirty x true) x)
 unfolding marked
 marked-on dirty x = true-holds (bit-or dirty (2 ^ x) x ∙ rw (bit-single x x, eq-eqb x x refl) (go (bit dirty x)))
   where
@@ -158,26 +157,18 @@ module _ (P : Problem) (universal : ℕ) (near index rows : List ℕ) (st : Stat
       next {p = p} {s = s} a = record { held = a .held; sized = a .sized; ready = ready-next P all (p .dirty) s (a .ready) }
 
   -- Passes until nothing waits are as many passes as one likes.
-  passes-rest : (v : ℕ) (p : Progress) (s : Sheet) → Agrees 0 0 p s → passesIn near index rows universal n v 0 p .words ≡ put (loop v 0 (λ _. pass P) s)
+  passes-hold : (v all : ℕ) (p : Progress) (s : Sheet) → (p .dirty ≡ 0 → all ≡ 0) → Agrees all 0 p s → passesIn near index rows universal n v all p .words ≡ put (loop v 0 (λ _. pass P) s)
   unfolding passesIn loop
-  passes-rest zero p s a = a .held
-  passes-rest (suc v) p s a = go (eqb (p .dirty) 0) refl (passes-rest v (passIn near index rows universal n 0 p) (pass P s) (pass-agrees 0 p s a) ∙ ap put (loop-from (pass P) v 0 1 (pass P s)))
+  passes-hold zero all p s q a = a .held
+  passes-hold (suc v) all p s q a =
+      go (eqb (p .dirty) 0) refl (passes-hold v 0 (passIn near index rows universal n all p) (pass P s) (λ _. refl) (pass-agrees all p s a) ∙ ap put (loop-from (pass P) v 0 1 (pass P s)))
     where
-      go : (b : Bool) → eqb (p .dirty) 0 ≡ b → passesIn near index rows universal n v 0 (passIn near index rows universal n 0 p) .words ≡ put (loop v 1 (λ _. pass P) (pass P s))
-          → cond b p (passesIn near index rows universal n v 0 (passIn near index rows universal n 0 p)) .words ≡ put (loop v 1 (λ _. pass P) (pass P s))
-      go true e h = a .held ∙ ap put (sym (ready-none P (suc v) 0 s (subst (λ d. Ready P 0 d 0 s) (eqb-true (p .dirty) 0 e) (a .ready))))
+      go : (b : Bool) → eqb (p .dirty) 0 ≡ b → passesIn near index rows universal n v 0 (passIn near index rows universal n all p) .words ≡ put (loop v 1 (λ _. pass P) (pass P s))
+          → cond b p (passesIn near index rows universal n v 0 (passIn near index rows universal n all p)) .words ≡ put (loop v 1 (λ _. pass P) (pass P s))
+      go true e h =
+          let z = eqb-true (p .dirty) 0 e in
+          a .held ∙ ap put (sym (ready-none P (suc v) 0 s (subst (λ d. Ready P 0 d 0 s) z (subst (λ b. Ready P b (p .dirty) 0 s) (q z) (a .ready)))))
       go false e h = h
-
-  passes-hold : (v : ℕ) (s : Sheet) → Sized P s → passesIn near index rows universal n v everyone (record { dirty = 1; words = put s }) .words ≡ put (loop v 0 (λ _. pass P) s)
-  unfolding passesIn loop
-  passes-hold zero s z = refl
-  passes-hold (suc v) s z = passes-rest v (passIn near index rows universal n everyone (record { dirty = 1; words = put s })) (pass P s) (pass-agrees everyone (record { dirty = 1; words = put s }) s start) ∙ ap put (loop-from (pass P) v 0 1 (pass P s))
-    where
-      ones : (k : ℕ) → k < n → T (bit everyone k)
-      ones k l = let m = st .most in true-holds (bit-not 32 0 k (omega arith) (omega arith) ∙ ap not (bit-of-zero k))
-
-      start : Agrees everyone 0 (record { dirty = 1; words = put s }) s
-      start = record { held = refl; sized = z; ready = ready-first P everyone 1 s ones }
 
 -- Words of 16 bits hold masks of 16 bits.
 pub sheet-sized : (P : Problem) (w : List ℕ) → ((k : ℕ) → getD w k 0 < 65536) → Sized P (sheetIn (P .n) w)
@@ -187,21 +178,40 @@ sheet-sized P w small = record {
   reasons = length-whyIn (P .n) w;
 }
 
--- On the words of a turn the code's removals are those of the definition.
-pub removals : (P : Problem) (n universal : ℕ) (near index rows : List ℕ) → States P n universal near index rows → (w : List ℕ) → 96 ≤ length w → ((k : ℕ) → getD w k 0 < 65536)
-    → removedIn near index rows universal n w ≡ holdingSheet n w (revisions P (sheetIn n w))
-unfolding removedIn
-removals P n universal near index rows st w long small = subst Goal (st .size) go st
-  where
-    Goal : ℕ → Type 0
-    Goal n = States P n universal near index rows
-        → removedIn near index rows universal n w ≡ holdingSheet n w (revisions P (sheetIn n w))
+-- On the words of a turn the code's removals are those of the definition, where nothing dies because of a variable outside the mask changed.
+module _ (P : Problem) (universal : ℕ) (near index rows : List ℕ) (w : List ℕ) (long : 96 ≤ length w) (small : (k : ℕ) → getD w k 0 < 65536) (changed : ℕ) where
+  abbrev Goal : ℕ → Type 0
+  Goal n = States P n universal near index rows → ((x k : ℕ) → x < n → k < n → bit changed k ≡ false → T (bit (getD near x 0) k) → Rests index rows universal w x k)
+      → removedIn near index rows universal n changed w ≡ holdingSheet n w (revisions P (sheetIn n w))
 
-    formed : Sized P (sheetIn (P .n) w) → Formed P (sheetIn (P .n) w)
-    formed z = record { masks = record { size = z .masks; small = z .small }; sized = z .reasons }
+  formed : Sized P (sheetIn (P .n) w) → Formed P (sheetIn (P .n) w)
+  formed z = record { masks = record { size = z .masks; small = z .small }; sized = z .reasons }
 
-    go : Goal (P .n)
-    go st =
-        ap (removedIn near index rows universal (P .n)) (sym (holding-own (P .n) (st .most) w long small))
-        ∙ passes-hold P universal near index rows st w long (16 * P .n) (sheetIn (P .n) w) (sheet-sized P w small)
-        ∙ ap (holdingSheet (P .n) w) (sym (revisions-loop P (sheetIn (P .n) w) (formed (sheet-sized P w small))))
+  own : Goal (P .n)
+  unfolding removedIn
+  own st rests =
+      ap (λ v. passesIn near index rows universal n (16 * n) changed (record { dirty = changed; words = v }) .words) (sym held)
+      ∙ passes-hold P universal near index rows st w long (16 * n) changed (record { dirty = changed; words = put P universal near index rows st w long s }) s (λ e. e)
+      (record { held = refl; sized = z; ready = ready-first P changed changed s still })
+      ∙ ap (holdingSheet n w) (sym (revisions-loop P s (formed z)))
+    where
+      n : ℕ
+      n = P .n
+
+      s : Sheet
+      s = sheetIn n w
+
+      z : Sized P s
+      z = sheet-sized P w small
+
+      held : holding n w (s .list) (s .why) ≡ w
+      held = holding-own n (st .most) w long small
+
+      still : (x k : ℕ) → x < n → k < n → bit changed k ≡ false → Still P (s .list) x k
+      still x k lx lk f u c =
+          surviving-leaves P n universal near index rows st (listIn n w) x k lx lk (z .small x)
+          ∙ ap₂ (λ u v. bitAnd u (leaves index rows universal x k v)) (getD-listIn n w x lx) (getD-listIn n w k lk)
+          ∙ rests x k lx lk f (rw (st .joined x k lx lk) at c) (fails {b = bit universal x} λ t. clash (ap not (st .side x lx ∙ holds {b = bit universal x} t)) u) ∙ sym (getD-listIn n w x lx)
+
+  pub removals : (n : ℕ) → Goal n
+  removals n st rests = subst Goal (st .size) own st rests

@@ -1,8 +1,9 @@
 -- Rule 1's removals on the words of a turn, as the code runs them: whole masks, and looks only where something changed.
 -- proofs/Sheets.antt says that they are the definition's.
-use mathlib.Core.Bool.{Bool, cond, not, _&&_}
+use mathlib.Core.Path.{_≡_}
+use mathlib.Core.Bool.{Bool, false, cond, not, _&&_}
 use mathlib.Core.List.{List}
-use Prim.Native.Nat.{ℕ, zero, suc, _*_, _^_}
+use Prim.Native.Nat.{ℕ, zero, suc, _*_, _^_, _<_}
 use lib.Dec.{eqb, ltb}
 use lib.Bits.{bitAnd, bitOr}
 use lib.ListN.{getD, set}
@@ -49,10 +50,6 @@ pub record Progress : Type 0 where
   pub dirty : ℕ
   pub words : List ℕ
 
--- The mask of all variables.
-abbrev pub everyone : ℕ
-everyone = 4294967295
-
 module _ (near index rows : List ℕ) (universal : ℕ) where
   -- One turn of a pass, in which each variable looks at those of the mask all besides.
   unfoldable pub progress : ℕ → ℕ → Progress → Progress
@@ -70,6 +67,14 @@ module _ (near index rows : List ℕ) (universal : ℕ) where
       let r = passesIn n v 0 (passIn n all p) in
       cond (eqb (p .dirty) 0) p r
 
-  -- Passes from the words w on: at first every variable has all its neighbours to look at.
-  unfoldable pub removedIn : ℕ → List ℕ → List ℕ
-  removedIn n w = passesIn n (16 * n) everyone (record { dirty = 1; words = w }) .words
+  -- Passes from the words w on: at first every variable has its neighbours in the mask changed to look at.
+  unfoldable pub removedIn : ℕ → ℕ → List ℕ → List ℕ
+  removedIn n changed w = passesIn n (16 * n) changed (record { dirty = changed; words = w }) .words
+
+-- A variable outside the mask touched is outside the mask changed, and its domain is as it was.
+abbrev pub Touched : ℕ → ℕ → List ℕ → List ℕ → Type 0
+Touched changed touched w w' = (k : ℕ) → k < 32 → bit touched k ≡ false → (bit changed k ≡ false) × (getD w' k 0 ≡ getD w k 0)
+
+-- No value of an existential x dies because of k.
+abbrev pub Rests : List ℕ → List ℕ → ℕ → List ℕ → ℕ → ℕ → Type 0
+Rests index rows universal w x k = bit universal x ≡ false → bitAnd (getD w x 0) (leaves index rows universal x k (getD w k 0)) ≡ getD w x 0

@@ -8,7 +8,7 @@ ghost use Prim.Native.Nat.{_<_, _≤_};
 ghost use lib.ListN.{length};
 ghost use lib.Bits.{bitAnd};
 ghost use Rattle.arrays.specs.Arrays.{InRange, supportedIn};
-ghost use Rattle.arc_passes.specs.Passes.{leaves, causeOf, reviseIn, turnIn, lostAt, marked, passIn, removedIn};
+ghost use Rattle.arc_passes.specs.Passes.{leaves, causeOf, reviseIn, turnIn, lostAt, marked, passIn, removedIn, Touched};
 use arrays::add_reason;
 use arrays::common;
 use arrays::reason;
@@ -166,25 +166,30 @@ fn pass(
     dirty
 }
 
-// Passes until no variable has lost values, in the first of which each looks at all its neighbours. There are never more
-// than 16 n: each but the last removes a value. A bit of n or above in dirty would stay, and no pass would be the last.
+// Passes until no variable has lost values, in the first of which each looks at its neighbours in the mask `changed`: the
+// others are known to have no effect. It replies these and the variables that have lost values. There are never more than
+// 16 n passes: each but the last removes a value. A bit of n or above in dirty would stay, and no pass would be the last.
 pub fn remove_dead(
     near: &[u32; 32],
     index: &[u16; 1024],
     rows: &[u16; 15888],
     n: usize,
     universal: u32,
+    changed: u32,
     w: &mut [u16],
-)
+) -> u32
     requires { ⌜ (n ≤ 32) × (96 ≤ length (now w)) × InRange (now index) ⌝ }
-    ensures { λ _. ⌜ now (w .exit) ≡ removedIn (now (near .entry)) (now (index .entry)) (now (rows .entry)) universal n (now (w .entry)) ⌝ }
+    ensures { λ r. ⌜ (now (w .exit) ≡ removedIn (now (near .entry)) (now (index .entry)) (now (rows .entry)) universal n changed (now (w .entry))) × Touched changed r (now (w .entry)) (now (w .exit)) ⌝ }
 {
     let mut left = 16 * n;
-    let mut all: u32 = 4294967295;
-    let mut dirty: u32 = 1;
+    let mut all = changed;
+    let mut dirty = changed;
+    let mut touched = changed;
     while left > 0 && dirty != 0 {
         dirty = pass(near, index, rows, n, universal, all, dirty, w);
         all = 0;
+        touched = touched | dirty;
         left -= 1;
     }
+    touched
 }

@@ -8,3 +8,5 @@ pub mod LossSteps
 pub mod LossLaws
 -- The code's removals and loss are rule 1 with reasons.
 pub mod ArcLaws
+-- What keeps a variable without effect on another.
+pub mod CalmLaws

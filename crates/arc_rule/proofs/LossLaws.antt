@@ -5,14 +5,14 @@ use mathlib.Core.List.{List}
 use Prim.Native.Nat.{ℕ, zero, suc, _<_}
 use native.Mathlib.Omega.{arith}
 use lib.Dec.{T, ltb}
-use lib.Bits.{bitOr}
+use lib.Bits.{bitAnd, bitOr}
 use lib.ListN.{getD}
 use borrow.Author.Tests.{lt-ltb, le-ltb, ltb-true}
 use Rattle.mask.specs.Range.{some, each, first}
 use Rattle.mask.specs.Mask.{bit, maskOf}
 use Rattle.mask.proofs.Logic.{same, holds, true-holds, fails, clash, by-lt, and-in, and-out, or-left, or-right, or-out}
 use Rattle.mask.proofs.Range.{some-out, some-in, first-of, first-below, first-least}
-use Rattle.mask.proofs.Bits.{bit-of-zero}
+use Rattle.mask.proofs.Bits.{bit-and, bit-of-zero}
 use Rattle.mask.proofs.Masks.{bit-maskOf, empty-some}
 use Rattle.game.specs.Problem.{Problem}
 use Rattle.game.specs.Game.{Domains}
@@ -44,19 +44,9 @@ some-front : (v : ℕ) (d f : ℕ → Bool) (b : Bool) → (b && some v d f) ≡
 some-front v d f true = refl
 some-front v d f false = sym (some-never v d)
 
-module _ (P : Problem) (universal : ℕ) (near index rows : List ℕ) (st : States P (P .n) universal near index rows)
-    (w l R : List ℕ) (dom : (x : ℕ) → x < P .n → getD w x 0 ≡ getD l x 0) (why : (x : ℕ) → x < P .n → reasonIn w x ≡ getD R x 0) (small : (x : ℕ) → getD l x 0 < 65536) where
-  open Problem P using (n, constrained)
-
-  abbrev D : Domains
-  D = domains l
-
-  emptied-is : (x : ℕ) → x < n → emptiedIn universal w x ≡ emptied P D x
-  unfolding emptiedIn emptied empty domains
-  emptied-is x lx = rw (st .side x lx, dom x lx, empty-some 16 (getD l x 0) (small x))
-
-  -- Whole masks say whether k bars a value of x.
-  bars-is : (x k : ℕ) → x < n → k < n → barsIn index rows universal x k (getD l x 0) (getD l k 0) ≡ some 16 (D x) (λ a. barred P D x a k)
+-- Whole masks say whether k bars a value of x.
+module _ (P : Problem) (n universal : ℕ) (near index rows : List ℕ) (st : States P n universal near index rows) (l : List ℕ) where
+  pub bars-is : (x k : ℕ) → x < n → k < n → barsIn index rows universal x k (getD l x 0) (getD l k 0) ≡ some 16 (domains l x) (λ a. barred P (domains l) x a k)
   unfolding barsIn barred clashes alone domains commonIn supportedIn
   bars-is x k lx lk = rw (st .side k lk) (go (bit universal k))
     where
@@ -85,18 +75,41 @@ module _ (P : Problem) (universal : ℕ) (near index rows : List ℕ) (st : Stat
           ap (λ (b : Bool). ltb x k && b) (out s ∙ some-agree 16 (bit u) (λ a. not (s a)) (λ a. not (some 16 (bit v) (λ b. P .compatible x a k b))) (λ a la. ap not (sym (some-back P n universal near index rows st x k lx lk v a la))))
           ∙ some-front 16 (bit u) (λ a. not (some 16 (bit v) (λ b. P .compatible x a k b))) (ltb x k)
 
+module _ (P : Problem) (universal touched : ℕ) (near index rows : List ℕ) (st : States P (P .n) universal near index rows)
+    (w l R : List ℕ) (dom : (x : ℕ) → x < P .n → getD w x 0 ≡ getD l x 0) (why : (x : ℕ) → x < P .n → reasonIn w x ≡ getD R x 0) (small : (x : ℕ) → getD l x 0 < 65536)
+    (clear : (x k : ℕ) → x < P .n → k < P .n → bit touched k ≡ false → T (bit (getD near x 0) k) → bit universal x ≡ true → barsIn index rows universal x k (getD w x 0) (getD w k 0) ≡ false) where
+  open Problem P using (n, constrained)
+
+  abbrev D : Domains
+  D = domains l
+
+  emptied-is : (x : ℕ) → x < n → emptiedIn universal w x ≡ emptied P D x
+  unfolding emptiedIn emptied empty domains
+  emptied-is x lx = rw (st .side x lx, dom x lx, empty-some 16 (getD l x 0) (small x))
+
   -- The test of a neighbour of x.
   abbrev bar : ℕ → ℕ → Bool
-  bar x k = bit (getD near x 0) k && barsIn index rows universal x k (getD w x 0) (getD w k 0)
+  bar x k = bit (bitAnd (getD near x 0) touched) k && barsIn index rows universal x k (getD w x 0) (getD w k 0)
 
-  against-is : (x k : ℕ) → x < n → k < n → against P D x k ≡ (bit universal x && bar x k)
+  against-all : (x k : ℕ) → x < n → k < n → against P D x k ≡ (bit universal x && (bit (getD near x 0) k && barsIn index rows universal x k (getD w x 0) (getD w k 0)))
   unfolding against
-  against-is x k lx lk = rw (st .side x lx, st .joined x k lx lk, dom x lx, dom k lk, bars-is x k lx lk)
+  against-all x k lx lk = rw (st .side x lx, st .joined x k lx lk, dom x lx, dom k lk, bars-is P n universal near index rows st l x k lx lk)
+
+  -- A variable outside the mask bars nothing.
+  against-is : (x k : ℕ) → x < n → k < n → against P D x k ≡ (bit universal x && bar x k)
+  against-is x k lx lk = against-all x k lx lk ∙ rw (bit-and (getD near x 0) touched k)
+      (go (bit universal x) (bit (getD near x 0) k) (bit touched k) (barsIn index rows universal x k (getD w x 0) (getD w k 0)) (λ f t u. clear x k lx lk f t u))
+    where
+      go : (u a b s : Bool) → (b ≡ false → T a → u ≡ true → s ≡ false) → (u && (a && s)) ≡ (u && ((a && b) && s))
+      go true true true s h = refl
+      go true true false s h = h refl tt refl
+      go true false b s h = refl
+      go false a b s h = refl
 
   bar-inside : (x k : ℕ) → x < n → T (bar x k) → k < n
-  bar-inside x k lx t = by-lt k n (λ h. h) (λ h. absurd (clash (st .inside x k lx h ∙ bit-of-zero k) (and-out (bit (getD near x 0) k) _ t .0)))
+  bar-inside x k lx t = by-lt k n (λ h. h) (λ h. absurd (clash (st .inside x k lx h ∙ bit-of-zero k) (and-out (bit (getD near x 0) k) (bit touched k) (rw (bit-and (getD near x 0) touched k) at (and-out (bit (bitAnd (getD near x 0) touched) k) _ t .0)) .0)))
 
-  stopped-is : (x : ℕ) → x < n → stopped near index rows universal w x ≡ some n (against P D x) (λ k. true)
+  stopped-is : (x : ℕ) → x < n → stopped near index rows universal touched w x ≡ some n (against P D x) (λ k. true)
   unfolding stopped barrier
   stopped-is x lx =
       same (bit universal x && ltb (first 32 (bar x)) 32) (some n (against P D x) (λ k. true))
@@ -110,7 +123,7 @@ module _ (P : Problem) (universal : ℕ) (near index rows : List ℕ) (st : Stat
       and-in (bit universal x) (ltb (first 32 (bar x)) 32) (p .0) (true-holds (lt-ltb (first 32 (bar x)) 32 (first-below 32 (bar x) (r .0) (omega arith) (p .1)))))
 
   -- The barrier of a stopped variable is the first that it is against.
-  barrier-is : (x : ℕ) → x < n → T (some n (against P D x) (λ k. true)) → (first n (against P D x) < n) × (barrier index rows universal w x (getD near x 0) ≡ first n (against P D x))
+  barrier-is : (x : ℕ) → x < n → T (some n (against P D x) (λ k. true)) → (first n (against P D x) < n) × (barrier index rows universal w x (bitAnd (getD near x 0) touched) ≡ first n (against P D x))
   unfolding barrier
   barrier-is x lx t =
       let r = some-out n (against P D x) (λ k. true) t in
@@ -130,8 +143,8 @@ module _ (P : Problem) (universal : ℕ) (near index rows : List ℕ) (st : Stat
   low-is : first n (emptiedIn universal w) ≡ low
   low-is = first-agree n (emptiedIn universal w) (emptied P D) emptied-is
 
-  stop-is : first n (stopped near index rows universal w) ≡ stop
-  stop-is = first-agree n (stopped near index rows universal w) (λ y. some n (against P D y) (λ k. true)) stopped-is
+  stop-is : first n (stopped near index rows universal touched w) ≡ stop
+  stop-is = first-agree n (stopped near index rows universal touched w) (λ y. some n (against P D y) (λ k. true)) stopped-is
 
   -- What loses at variable x.
   abbrev fault : ℕ → Bool
@@ -169,7 +182,7 @@ module _ (P : Problem) (universal : ℕ) (near index rows : List ℕ) (st : Stat
           or-right (ltb low n) (ltb stop n) (true-holds (lt-ltb stop n (first-below n (λ y. some n (against P D y) (λ k. true)) x lx (some-in n (against P D x) (λ k. true) (q .0) (q .1) g tt))))
       go false u t = or-left (ltb low n) (ltb stop n) (true-holds (lt-ltb low n (first-below n (emptied P D) x lx (and-in (not (P .universal x)) (empty P D x) (rw u tt) t))))
 
-  pub loss-is : loss near index rows universal w n ≡ arcLoss P D
+  pub loss-is : loss near index rows universal touched w n ≡ arcLoss P D
   unfolding loss arcLoss
   loss-is = rw (low-is, stop-is) (same (ltb low n || ltb stop n) (some n (λ x. true) fault) into (λ t. let r = some-out n (λ x. true) fault t in fault-out (r .0) (r .1) (r .3)))
     where
@@ -180,7 +193,7 @@ module _ (P : Problem) (universal : ℕ) (near index rows : List ℕ) (st : Stat
           let r = some-out n (against P D stop) (λ k. true) (first-of n (λ y. some n (against P D y) (λ k. true)) h) in
           some-in n (λ x. true) fault stop h tt (against-fault stop (r .0) (r .1) (r .2)))
 
-  pub conflict-is : T (loss near index rows universal w n) → conflict near index rows universal w n ≡ arcConflict P l R
+  pub conflict-is : T (loss near index rows universal touched w n) → conflict near index rows universal touched w n ≡ arcConflict P l R
   unfolding loss conflict arcConflict
   conflict-is t = rw (low-is, stop-is) (by-lt low n
       (λ h. rw (lt-ltb low n h) (why low h))

@@ -32,35 +32,35 @@ unfolding barsIn
 bars-earlier index rows universal x k u v c e t l = rw (← e, t, le-ltb x k l)
 
 -- A universal variable is stopped where it has a barrier, another never.
-module _ (near index rows : List ℕ) (universal : ℕ) (w : List ℕ) (x : ℕ) (c : Bool) (e : c ≡ bit universal x) where
-  pub stopped-universal : (b : ℕ) → c ≡ true → b ≡ barrier index rows universal w x (getD near x 0) → ltb b 32 ≡ stopped near index rows universal w x
+module _ (near index rows : List ℕ) (universal touched : ℕ) (w : List ℕ) (x : ℕ) (c : Bool) (e : c ≡ bit universal x) where
+  pub stopped-universal : (b : ℕ) → c ≡ true → b ≡ barrier index rows universal w x (bitAnd (getD near x 0) touched) → ltb b 32 ≡ stopped near index rows universal touched w x
   unfolding stopped
   stopped-universal b t q = rw (← e, t, q)
 
-  pub stopped-none : c ≡ false → c ≡ stopped near index rows universal w x
+  pub stopped-none : c ≡ false → c ≡ stopped near index rows universal touched w x
   unfolding stopped
   stopped-none t = rw (← e, t)
 
 -- The loss: an emptied variable; else a stopped one, with its barrier; else none.
-module _ (near index rows : List ℕ) (universal : ℕ) (w : List ℕ) (n x : ℕ) (p : x ≡ first n (emptiedIn universal w)) where
-  pub loss-emptied : (q : ℕ) → x < n → q ≡ reasonIn w x → (true ≡ loss near index rows universal w n) × (q ≡ conflict near index rows universal w n)
+module _ (near index rows : List ℕ) (universal touched : ℕ) (w : List ℕ) (n x : ℕ) (p : x ≡ first n (emptiedIn universal w)) where
+  pub loss-emptied : (q : ℕ) → x < n → q ≡ reasonIn w x → (true ≡ loss near index rows universal touched w n) × (q ≡ conflict near index rows universal touched w n)
   unfolding loss conflict
   loss-emptied q l e = (rw (← p, lt-ltb x n l), rw (← p, lt-ltb x n l) e)
 
-  module _ (h : n ≤ x) (y : ℕ) (s : y ≡ first n (stopped near index rows universal w)) where
-    pub loss-stopped : (k a b : ℕ) → y < n → k ≡ barrier index rows universal w y (getD near y 0) → a ≡ reasonIn w y → b ≡ reasonIn w k
-        → (true ≡ loss near index rows universal w n) × (bitOr a b ≡ conflict near index rows universal w n)
+  module _ (h : n ≤ x) (y : ℕ) (s : y ≡ first n (stopped near index rows universal touched w)) where
+    pub loss-stopped : (k a b : ℕ) → y < n → k ≡ barrier index rows universal w y (bitAnd (getD near y 0) touched) → a ≡ reasonIn w y → b ≡ reasonIn w k
+        → (true ≡ loss near index rows universal touched w n) × (bitOr a b ≡ conflict near index rows universal touched w n)
     unfolding loss conflict
     loss-stopped k a b l f e g = (rw (← p, le-ltb x n h, ← s, lt-ltb y n l), rw (← p, le-ltb x n h, ← s, lt-ltb y n l, ← f, e, g))
 
-    pub loss-none : n ≤ y → (false ≡ loss near index rows universal w n) × (0 ≡ conflict near index rows universal w n)
+    pub loss-none : n ≤ y → (false ≡ loss near index rows universal touched w n) × (0 ≡ conflict near index rows universal touched w n)
     unfolding loss conflict
     loss-none l = (rw (← p, le-ltb x n h, ← s, le-ltb y n l), rw (← p, le-ltb x n h, ← s, le-ltb y n l))
 
 -- The lowest stopped variable has a barrier.
-pub stopped-barred : (near index rows : List ℕ) (universal : ℕ) (w : List ℕ) (n y k : ℕ) → y ≡ first n (stopped near index rows universal w) → y < n → k ≡ barrier index rows universal w y (getD near y 0) → k < 32
+pub stopped-barred : (near index rows : List ℕ) (universal touched : ℕ) (w : List ℕ) (n y k : ℕ) → y ≡ first n (stopped near index rows universal touched w) → y < n → k ≡ barrier index rows universal w y (bitAnd (getD near y 0) touched) → k < 32
 unfolding stopped
-stopped-barred near index rows universal w n y k s l e =
-    let b : ℕ = barrier index rows universal w y (getD near y 0) in
-    let t : T (stopped near index rows universal w (first n (stopped near index rows universal w))) = first-of n (stopped near index rows universal w) (rw (← s) l) in
+stopped-barred near index rows universal touched w n y k s l e =
+    let b : ℕ = barrier index rows universal w y (bitAnd (getD near y 0) touched) in
+    let t : T (stopped near index rows universal touched w (first n (stopped near index rows universal touched w))) = first-of n (stopped near index rows universal touched w) (rw (← s) l) in
     rw e (ltb-true b 32 (holds {b = ltb b 32} (and-out (bit universal y) (ltb b 32) (rw (← s) at t) .1)))

@@ -4,7 +4,7 @@ use mathlib.Core.Bool.{Bool, cond, not, _&&_, _||_}
 use mathlib.Core.List.{List}
 use Prim.Native.Nat.{ℕ}
 use lib.Dec.{eqb, ltb}
-use lib.Bits.{bitOr}
+use lib.Bits.{bitAnd, bitOr}
 use lib.ListN.{getD}
 use Rattle.mask.specs.Range.{each, first}
 use Rattle.mask.specs.Mask.{bit}
@@ -26,10 +26,11 @@ barsIn index rows universal x k u v =
 unfoldable pub barrier : List ℕ → List ℕ → ℕ → List ℕ → ℕ → ℕ → ℕ
 barrier index rows universal w x m = first 32 (λ k. bit m k && barsIn index rows universal x k (getD w x 0) (getD w k 0))
 
-module _ (near index rows : List ℕ) (universal : ℕ) (w : List ℕ) where
-  -- A universal x with a value that a neighbour bars.
+-- For words in which no variable outside the mask touched bars a value.
+module _ (near index rows : List ℕ) (universal touched : ℕ) (w : List ℕ) where
+  -- A universal x with a value that a neighbour in the mask bars.
   unfoldable pub stopped : ℕ → Bool
-  stopped x = let b = ltb (barrier index rows universal w x (getD near x 0)) 32 in bit universal x && b
+  stopped x = let b = ltb (barrier index rows universal w x (bitAnd (getD near x 0) touched)) 32 in bit universal x && b
 
   -- The lowest emptied variable, and the lowest stopped one; n if there is none.
   unfoldable pub loss : ℕ → Bool
@@ -39,5 +40,5 @@ module _ (near index rows : List ℕ) (universal : ℕ) (w : List ℕ) where
   conflict n =
       let x = first n (emptiedIn universal w) in
       let y = first n stopped in
-      let two = cond (ltb y n) (bitOr (reasonIn w y) (reasonIn w (barrier index rows universal w y (getD near y 0)))) 0 in
+      let two = cond (ltb y n) (bitOr (reasonIn w y) (reasonIn w (barrier index rows universal w y (bitAnd (getD near y 0) touched)))) 0 in
       cond (ltb x n) (reasonIn w x) two

@@ -2,12 +2,14 @@
 // `arc` is for the crates of the rules and the search.
 ghost use mathlib.Core.Path.{_≡_};
 ghost use mathlib.Core.Bool.{_&&_};
-ghost use Prim.Native.Nat.{_<_, _≤_};
+ghost use Prim.Native.Nat.{ℕ, _<_, _≤_};
+ghost use lib.Dec.{T};
+ghost use Rattle.mask.specs.Mask.{bit};
 ghost use lib.ListN.{length, getD};
 ghost use Rattle.mask.specs.Range.{first};
 ghost use Rattle.arrays.specs.Arrays.{InRange};
 ghost use Rattle.arc_rule.specs.Loss.{emptiedIn, barsIn, barrier, stopped, loss, conflict};
-ghost use Rattle.arc_rule.specs.ArcRule.{ArcSteps};
+ghost use Rattle.arc_rule.specs.ArcRule.{CalmBut, ArcSteps};
 use arc_passes::remove_dead;
 use arc_passes::supported_of;
 use arrays::common;
@@ -88,19 +90,20 @@ fn first_bar(
     32
 }
 
-// Whether x is universal and a neighbour bars one of its values.
+// Whether x is universal and a neighbour in the mask touched bars one of its values.
 fn is_stopped(
     near: &[u32; 32],
     index: &[u16; 1024],
     rows: &[u16; 15888],
     universal: u32,
     x: usize,
+    touched: u32,
     w: &[u16],
 ) -> bool
     requires { ⌜ (x < 32) × (96 ≤ length (now w)) × InRange (now index) ⌝ }
-    ensures { λ r. ⌜ r ≡ stopped (now (near .entry)) (now (index .entry)) (now (rows .entry)) universal (now (w .entry)) x ⌝ }
+    ensures { λ r. ⌜ r ≡ stopped (now (near .entry)) (now (index .entry)) (now (rows .entry)) universal touched (now (w .entry)) x ⌝ }
 {
-    contains_32(universal, x) && first_bar(index, rows, universal, x, near[x], w) < 32
+    contains_32(universal, x) && first_bar(index, rows, universal, x, near[x] & touched, w) < 32
 }
 
 // The lowest stopped variable, or n.
@@ -110,14 +113,15 @@ fn lowest_stopped(
     rows: &[u16; 15888],
     n: usize,
     universal: u32,
+    touched: u32,
     w: &[u16],
 ) -> usize
     requires { ⌜ (n ≤ 32) × (96 ≤ length (now w)) × InRange (now index) ⌝ }
-    ensures { λ r. ⌜ r ≡ first n (stopped (now (near .entry)) (now (index .entry)) (now (rows .entry)) universal (now (w .entry))) ⌝ }
+    ensures { λ r. ⌜ r ≡ first n (stopped (now (near .entry)) (now (index .entry)) (now (rows .entry)) universal touched (now (w .entry))) ⌝ }
 {
     let mut x: usize = 0;
     while x < n {
-        if is_stopped(near, index, rows, universal, x, w) {
+        if is_stopped(near, index, rows, universal, x, touched, w) {
             return x;
         }
         x += 1;
@@ -125,17 +129,18 @@ fn lowest_stopped(
     n
 }
 
-// The loss and its conflict set, of words without dead values.
+// The loss and its conflict set, of words without dead values in which no variable outside the mask touched bars a value.
 fn loss_in(
     near: &[u32; 32],
     index: &[u16; 1024],
     rows: &[u16; 15888],
     n: usize,
     universal: u32,
+    touched: u32,
     w: &[u16],
 ) -> Outcome
     requires { ⌜ (n ≤ 32) × (96 ≤ length (now w)) × InRange (now index) ⌝ }
-    ensures { λ r. ⌜ (r .loss ≡ loss (now (near .entry)) (now (index .entry)) (now (rows .entry)) universal (now (w .entry)) n) × (r .conflict ≡ conflict (now (near .entry)) (now (index .entry)) (now (rows .entry)) universal (now (w .entry)) n) ⌝ }
+    ensures { λ r. ⌜ (r .loss ≡ loss (now (near .entry)) (now (index .entry)) (now (rows .entry)) universal touched (now (w .entry)) n) × (r .conflict ≡ conflict (now (near .entry)) (now (index .entry)) (now (rows .entry)) universal touched (now (w .entry)) n) ⌝ }
 {
     let x = lowest_emptied(n, universal, w);
     if x < n {
@@ -144,9 +149,9 @@ fn loss_in(
             conflict: reason(w, x),
         };
     }
-    let y = lowest_stopped(near, index, rows, n, universal, w);
+    let y = lowest_stopped(near, index, rows, n, universal, touched, w);
     if y < n {
-        let k = first_bar(index, rows, universal, y, near[y], w);
+        let k = first_bar(index, rows, universal, y, near[y] & touched, w);
         return Outcome {
             loss: true,
             conflict: reason(w, y) | reason(w, k),
@@ -158,18 +163,28 @@ fn loss_in(
     }
 }
 
-// Rule 1.
+// The mask of all n variables.
+pub fn everyone(n: usize) -> u32
+    requires { ⌜ n ≤ 32 ⌝ }
+    ensures { λ r. ⌜ ((k : ℕ) → k < n → T (bit r k)) ⌝ }
+{
+    let one: u64 = 1;
+    ((one << n) - 1) as u32
+}
+
+// Rule 1, where variables outside the mask `changed` have no effect on others.
 pub fn arc(
     near: &[u32; 32],
     index: &[u16; 1024],
     rows: &[u16; 15888],
     n: usize,
     universal: u32,
+    changed: u32,
     w: &mut [u16],
 ) -> Outcome
-    requires { ⌜ (n ≤ 32) × (96 ≤ length (now w)) × InRange (now index) ⌝ }
+    requires { ⌜ (n ≤ 32) × (96 ≤ length (now w)) × InRange (now index) × CalmBut n changed (now near) (now index) (now rows) universal (now w) ⌝ }
     ensures { λ r. ⌜ ArcSteps n universal (now (near .entry)) (now (index .entry)) (now (rows .entry)) (now (w .entry)) (now (w .exit)) (r .loss) (r .conflict) ⌝ }
 {
-    remove_dead(near, index, rows, n, universal, w);
-    loss_in(near, index, rows, n, universal, w)
+    let touched = remove_dead(near, index, rows, n, universal, changed, w);
+    loss_in(near, index, rows, n, universal, touched, w)
 }

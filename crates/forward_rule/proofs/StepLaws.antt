@@ -9,11 +9,11 @@ use lib.Bits.{bitAnd, bitOr, and-lt}
 use lib.ListN.{getD, length, set, length-set}
 use lib.Seq.{ext-getD, getD-set-same, getD-set-other, set-getD}
 use lib.Pow.{pow-pos, pow-mono}
-use borrow.Author.Tests.{eq-eqb, ne-eqb, lt-ltb, le-ltb, ltb-true}
+use borrow.Author.Tests.{eq-eqb, ne-eqb, eqb-true, lt-ltb, le-ltb, ltb-true}
 use Rattle.mask.specs.Range.{first}
 use Rattle.mask.specs.Mask.{bit, rest}
 use Rattle.mask.proofs.Logic.{holds, true-holds, by-eq, by-lt, and-out}
-use Rattle.mask.proofs.Bits.{bit-and, bit-ext, bit-high, bit-of-zero}
+use Rattle.mask.proofs.Bits.{bit-and, bit-or, bit-single, bit-ext, bit-high, bit-of-zero}
 use Rattle.mask.proofs.Masks.{maskOf-lt, bit-maskOf, bit-not}
 use Rattle.mask.proofs.Members.{bit-rest, low-in, low-lt}
 use Rattle.game.specs.Lists.{listOf}
@@ -21,7 +21,7 @@ use Rattle.theory.proofs.Lists.{length-listOf, getD-listOf}
 use Rattle.arrays.specs.Arrays.{rowIn}
 use Rattle.arrays.specs.Words.{listIn, whyIn, reasonIn, putReason, holding}
 use Rattle.arrays.proofs.WordLaws.{length-holding, holding-domain, holding-reason, holding-own, set-domain, set-reason}
-use Rattle.forward_rule.specs.OneValue.{laterOf, leftOf, failsAt, reasonOf, checkedAt, maskAt, whyAt, failing, checkedWords, firstFailing, losing, firstLosing, losingAt}
+use Rattle.forward_rule.specs.OneValue.{laterOf, leftOf, failsAt, reasonOf, checkedAt, maskAt, whyAt, failing, checkedWords, firstFailing, Unmoved, losing, firstLosing, losingAt}
 use Rattle.forward_rule.proofs.FirstLaws.{first-none, first-more, first-found, first-on}
 
 -- The members after x and below n ------------------------------------------------------------------------------
@@ -104,6 +104,31 @@ pub checked-new : (u : Bool) (r q : ℕ) (w : List ℕ) (j : ℕ) → j < 32 →
     → putReason (set w j (leftOf u r (getD w j 0))) j (bitOr (reasonIn (set w j (leftOf u r (getD w j 0))) j) q) ≡ checkedAt u r q w j
 unfolding checkedAt reasonOf
 checked-new u r q w j h e = rw (reason-set w j (leftOf u r (getD w j 0)) h, ne-eqb (leftOf u r (getD w j 0)) (getD w j 0) e)
+
+-- Another domain stays.
+checked-other : (u : Bool) (r q : ℕ) (w : List ℕ) (j k : ℕ) → k < 32 → ¬ (k ≡ j) → getD (checkedAt u r q w j) k 0 ≡ getD w k 0
+unfolding checkedAt putReason
+checked-other u r q w j k h d = other-reason (set w j (leftOf u r (getD w j 0))) (reasonOf q (getD w j 0) (leftOf u r (getD w j 0)) (reasonIn w j)) ∙ getD-set-other w j k (leftOf u r (getD w j 0)) 0 d
+  where
+    other-reason : (v : List ℕ) (y : ℕ) → getD (putReason v j y) k 0 ≡ getD v k 0
+    other-reason v y = getD-set-other (set v (32 + 2 * j) (y % 65536)) (33 + 2 * j) k (y / 65536) 0 (omega arith) ∙ getD-set-other v (32 + 2 * j) k (y % 65536) 0 (omega arith)
+
+-- The mask of the variables that lost values, with one variable more.
+pub unmoved-turn : (u : Bool) (r q j m m' : ℕ) (w v v' : List ℕ) → v' ≡ checkedAt u r q v j → m' ≡ cond (eqb (getD v' j 0) (getD v j 0)) m (bitOr m (2 ^ j)) → Unmoved m w v → Unmoved m' w v'
+unmoved-turn u r q j m m' w v v' e f h k l b = go (eqb (getD v' j 0) (getD v j 0)) refl (sym (ap (λ z. bit z k) f) ∙ b)
+  where
+    other : ¬ (k ≡ j) → getD v' k 0 ≡ getD v k 0
+    other d = ap (λ (z : List ℕ). getD z k 0) e ∙ checked-other u r q v j k l d
+
+    out : (x y : Bool) → (x || y) ≡ false → (x ≡ false) × (y ≡ false)
+    out true y e = absurd (true-holds (sym e))
+    out false y e = (refl, e)
+
+    go : (b : Bool) → eqb (getD v' j 0) (getD v j 0) ≡ b → bit (cond b m (bitOr m (2 ^ j))) k ≡ false → getD v' k 0 ≡ getD w k 0
+    go true t s = by-eq k j (λ z. rw z (eqb-true (getD v' j 0) (getD v j 0) t)) other ∙ h k l s
+    go false t s =
+        let o = out (bit m k) (bit (2 ^ j) k) (sym (bit-or m (2 ^ j) k) ∙ s) in
+        by-eq k j (λ z. absurd (true-holds (sym (o .1) ∙ bit-single j k ∙ eq-eqb k j z))) other ∙ h k l (o .0)
 
 -- Each member of a mask ----------------------------------------------------------------------------------------
 pub listOf-same : (n : ℕ) (f g : ℕ → ℕ) → ((k : ℕ) → k < n → f k ≡ g k) → listOf n f ≡ listOf n g

@@ -1,7 +1,8 @@
 -- A value's row against the mask of a later variable: the check of one variable, and of a mask of variables.
-use mathlib.Core.Bool.{Bool, cond, not, _&&_}
+use mathlib.Core.Path.{_≡_}
+use mathlib.Core.Bool.{Bool, false, cond, not, _&&_}
 use mathlib.Core.List.{List}
-use Prim.Native.Nat.{ℕ}
+use Prim.Native.Nat.{ℕ, _<_}
 use lib.Dec.{eqb, ltb}
 use lib.Bits.{bitAnd, bitOr}
 use lib.ListN.{getD, set}
@@ -47,6 +48,10 @@ module _ (universal : ℕ) (index rows : List ℕ) (x a : ℕ) where
 
   unfoldable pub firstFailing : ℕ → (ℕ → Bool) → List ℕ → ℕ
   firstFailing n d w = first n (λ j. d j && failing w j)
+
+-- The domains outside the mask m are as they were.
+abbrev pub Unmoved : ℕ → List ℕ → List ℕ → Type 0
+Unmoved m w w' = (k : ℕ) → k < 32 → bit m k ≡ false → getD w' k 0 ≡ getD w k 0
 
 module _ (universal : ℕ) (index rows : List ℕ) (x n m : ℕ) where
   -- The check of value a of x against the members of m is a loss; the first value of the mask d that loses so, or 16.

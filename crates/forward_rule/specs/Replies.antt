@@ -1,11 +1,12 @@
 -- What the functions of rules 2 and 3 reply and leave, in the words of the game.
 use mathlib.Core.Path.{_≡_}
-use mathlib.Core.Bool.{cond}
+use mathlib.Core.Bool.{false, cond}
 use mathlib.Core.List.{List}
 use Prim.Native.Nat.{ℕ, _<_}
 use lib.Dec.{ltb}
 use lib.ListN.{getD}
 use lib.Bits.{bitOr}
+use Rattle.mask.specs.Mask.{bit}
 use Rattle.game.specs.Problem.{Problem}
 use Rattle.game.specs.Forward.{forwardNamed}
 use Rattle.game.specs.LookAhead.{aheadNamed}
@@ -37,6 +38,10 @@ conflictIn P k x w = bitOr (reasonIn w k) (bitOr (reasonIn w x) (neighbours P x)
 abbrev pub Forwarded : (n universal : ℕ) (near index rows : List ℕ) (x a : ℕ) (w w' : List ℕ) (r : ℕ) → Type 0
 Forwarded n universal near index rows x a w w' r = (P : Problem) → States P n universal near index rows
     → (r ≡ forwardNamed P x a (listIn n w)) × (w' ≡ afterForward P n x a w)
+
+-- The domains outside the mask m, but for that of x, are as they were.
+abbrev pub UnmovedBut : ℕ → ℕ → List ℕ → List ℕ → Type 0
+UnmovedBut x m w w' = (k : ℕ) → k < 32 → ¬ (k ≡ x) → bit m k ≡ false → getD w' k 0 ≡ getD w k 0
 
 -- Look ahead at i over the words w replies this value and variable.
 abbrev pub LookedAhead : (n universal : ℕ) (near index rows : List ℕ) (i : ℕ) (w : List ℕ) (value variable : ℕ) → Type 0

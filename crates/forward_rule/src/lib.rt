@@ -5,7 +5,7 @@ ghost use Prim.Native.Nat.{_≤_, _<_, _^_};
 ghost use lib.Bits.{bitOr};
 ghost use lib.ListN.{length};
 ghost use Rattle.arrays.specs.Arrays.{InRange};
-ghost use Rattle.forward_rule.specs.Replies.{Nonzero, Forwarded, ForwardConflict, LookedAhead};
+ghost use Rattle.forward_rule.specs.Replies.{Nonzero, Forwarded, UnmovedBut, ForwardConflict, LookedAhead};
 use arrays::reason;
 use mask::single;
 use steps::check_each;
@@ -16,8 +16,10 @@ use steps::tried;
 mod steps;
 
 pub use steps::Ahead;
+pub use steps::Checked;
 
-// The forward check of value a of variable x. The reply is the variable that the loss names, n where there is no loss.
+// The forward check of value a of variable x. The reply names the variable of the loss, n where there is no loss, and the
+// other variables that lost values.
 pub fn forward(
     near: &[u32; 32],
     index: &[u16; 1024],
@@ -27,9 +29,9 @@ pub fn forward(
     x: usize,
     a: usize,
     w: &mut [u16],
-) -> usize
+) -> Checked
     requires { ⌜ (n ≤ 32) × (x < n) × (a < 16) × (96 ≤ length (now w)) × InRange (now index) × Nonzero n (now w) ⌝ }
-    ensures { λ r. ⌜ Forwarded n universal (now (near .entry)) (now (index .entry)) (now (rows .entry)) x a (now (w .entry)) (now (w .exit)) r ⌝ }
+    ensures { λ r. ⌜ Forwarded n universal (now (near .entry)) (now (index .entry)) (now (rows .entry)) x a (now (w .entry)) (now (w .exit)) (r .named) × UnmovedBut x (r .narrowed) (now (w .entry)) (now (w .exit)) ⌝ }
 {
     let m = later(near[x], x, n);
     w[x] = single(a);

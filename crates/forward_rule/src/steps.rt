@@ -1,12 +1,13 @@
 // The check of one value against later variables, one at a time.
 ghost use mathlib.Core.Path.{_≡_};
 ghost use mathlib.Core.Bool.{cond, _&&_};
-ghost use Prim.Native.Nat.{ℕ, _≤_, _<_};
-ghost use lib.Dec.{T, ltb};
+ghost use Prim.Native.Nat.{ℕ, _^_, _≤_, _<_};
+ghost use lib.Dec.{T, eqb, ltb};
+ghost use lib.Bits.{bitOr};
 ghost use lib.ListN.{length, getD};
 ghost use Rattle.mask.specs.Mask.{bit};
 ghost use Rattle.arrays.specs.Arrays.{rowIn, InRange};
-ghost use Rattle.forward_rule.specs.OneValue.{laterOf, leftOf, failsAt, checkedAt, failing, checkedWords, firstFailing, firstLosing, losingAt};
+ghost use Rattle.forward_rule.specs.OneValue.{laterOf, leftOf, failsAt, checkedAt, failing, checkedWords, firstFailing, Unmoved, firstLosing, losingAt};
 use arrays::add_reason;
 use arrays::row;
 use mask::contains_32;
@@ -14,6 +15,7 @@ use mask::lowest;
 use mask::lowest_32;
 use mask::rest_of;
 use mask::rest_of_32;
+use mask::single_32;
 
 // The members of m after x and below n.
 pub fn later(m: u32, x: usize, n: usize) -> u32
@@ -96,7 +98,24 @@ fn least(lost: bool, j: usize, named: usize) -> usize
     if j < named { j } else { named }
 }
 
-// The check at each member of m: the lowest where it fails, or n.
+// The mask m, with j in it where its domain changed.
+fn noted(m: u32, j: usize, old: u16, new: u16) -> u32
+    requires { ⌜ j < 32 ⌝ }
+    ensures { λ r. ⌜ r ≡ cond (eqb new old) m (bitOr m (2 ^ j)) ⌝ }
+{
+    if new == old {
+        return m;
+    }
+    m | single_32(j)
+}
+
+// What a check finds: the lowest variable where it fails, or n; and the variables that lost values.
+pub struct Checked {
+    pub named: usize,
+    pub narrowed: u32,
+}
+
+// The check at each member of m.
 pub fn check_each(
     index: &[u16; 1024],
     rows: &[u16; 15888],
@@ -107,19 +126,25 @@ pub fn check_each(
     q: u32,
     m: u32,
     w: &mut [u16],
-) -> usize
+) -> Checked
     requires { ⌜ (n ≤ 32) × (x < 32) × (a < 16) × (96 ≤ length (now w)) × InRange (now index) × ((k : ℕ) → T (bit m k) → k < n) ⌝ }
-    ensures { λ r. ⌜ (r ≡ firstFailing universal (now (index .entry)) (now (rows .entry)) x a n (bit m) (now (w .entry))) × (now (w .exit) ≡ checkedWords universal (now (index .entry)) (now (rows .entry)) x a n q (bit m) (now (w .entry))) ⌝ }
+    ensures { λ r. ⌜ (r .named ≡ firstFailing universal (now (index .entry)) (now (rows .entry)) x a n (bit m) (now (w .entry))) × (now (w .exit) ≡ checkedWords universal (now (index .entry)) (now (rows .entry)) x a n q (bit m) (now (w .entry))) × Unmoved (r .narrowed) (now (w .entry)) (now (w .exit)) ⌝ }
 {
     let mut named = n;
+    let mut narrowed: u32 = 0;
     let mut left = m;
     while left != 0 {
         let j = lowest_32(left) as usize;
+        let old = w[j];
         let lost = check_at(index, rows, universal, x, a, q, j, w);
+        narrowed = noted(narrowed, j, old, w[j]);
         named = least(lost, j, named);
         left = rest_of_32(left);
     }
-    named
+    Checked {
+        named: named,
+        narrowed: narrowed,
+    }
 }
 
 // The lowest member of m where the check fails, or n; nothing is written.

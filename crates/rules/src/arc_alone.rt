@@ -9,6 +9,7 @@ use crate::lend::list_test;
 use crate::lend::put_back;
 use crate::lend::words_of;
 use arc_rule::arc;
+use arc_rule::everyone;
 use refusal::Verdict;
 
 // Rule 1 on words.
@@ -23,7 +24,7 @@ fn arc_words(
     requires { ⌜ (n ≤ 32) × InRange (now index) ⌝ }
     ensures { λ r. ⌜ ArcWords n universal (now (near .entry)) (now (index .entry)) (now (rows .entry)) (now (w .entry)) (now (w .exit)) r ⌝ }
 {
-    arc(near, index, rows, n, universal, w).loss
+    arc(near, index, rows, n, universal, everyone(n), w).loss
 }
 
 // Whether rule 1 finds a loss.

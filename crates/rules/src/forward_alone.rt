@@ -28,7 +28,7 @@ fn check_words(
     requires { ⌜ (n ≤ 32) × (x < n) × (a < 16) × InRange (now index) × Nonzero n (now w) ⌝ }
     ensures { λ r. ⌜ Forwarded n universal (now (near .entry)) (now (index .entry)) (now (rows .entry)) x a (now (w .entry)) (now (w .exit)) r ⌝ }
 {
-    forward(near, index, rows, n, universal, x, a, w)
+    forward(near, index, rows, n, universal, x, a, w).named
 }
 
 // Whether the forward check is a loss.

@@ -12,6 +12,8 @@ pub mod StepLaws
 pub mod RoomTurns
 -- What the words of a turn give its rules.
 pub mod StandLaws
+-- What rule 1 of the turn above gives them.
+pub mod SettledLaws
 -- What the loop of a turn keeps.
 pub mod LoopLaws
 -- A whole turn, step by step.

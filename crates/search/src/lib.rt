@@ -10,7 +10,7 @@ ghost use Rattle.game.specs.Search.{handed as handedUp};
 ghost use Rattle.arrays.specs.Arrays.{InRange};
 ghost use Rattle.forward_rule.specs.Replies.{Nonzero};
 ghost use Rattle.skip_rule.specs.Skip.{LeafHolds};
-ghost use Rattle.turn_rules.specs.RuledTurn.{Stated};
+ghost use Rattle.turn_rules.specs.RuledTurn.{Stated, Settled};
 ghost use Rattle.turn_words.specs.TurnRoom.{cleared, leafCleared, leafTaken};
 ghost use Rattle.search.specs.TurnReply.{roomOf, Blank, Stands, TurnReplies};
 ghost use Rattle.search.specs.TurnSteps.{EntersTurn, LeavesUntried};
@@ -88,7 +88,7 @@ pub fn enter(
     d: usize,
     w: &mut [u16],
 ) -> Entered
-    requires { ⌜ (n ≤ 32) × (c ≤ d) × (d < n) × (96 ≤ length (now w)) × InRange (now index) × Nonzero n (now w) × Stated n universal (now near) (now index) (now rows) ⌝ }
+    requires { ⌜ (n ≤ 32) × (c ≤ d) × (d < n) × (96 ≤ length (now w)) × InRange (now index) × Nonzero n (now w) × Stated n universal (now near) (now index) (now rows) × Settled n universal (now near) (now index) (now rows) set c d (now w) ⌝ }
     ensures { λ r. ⌜ EntersTurn n universal (now (near .entry)) (now (index .entry)) (now (rows .entry)) set c d (now (w .entry)) (now (w .exit)) (r .lost) (r .conflict) (r .left) (r .narrowed) ⌝ }
 {
     let s = run_rules(near, index, rows, n, universal, set, c, d, w);

@@ -2,11 +2,10 @@
 use mathlib.Core.Path.{_≡_, refl, sym, ap, subst, _∙_}
 use mathlib.Core.Bool.{Bool, true, false, cond, not, _&&_}
 use mathlib.Core.List.{List}
-use Prim.Native.Nat.{ℕ, zero, suc, _*_, _≤_, _<_}
+use Prim.Native.Nat.{ℕ, _≤_, _<_}
 use native.Mathlib.Omega.{arith}
 use lib.Dec.{T}
-use lib.ListN.{getD, length, set}
-use lib.Seq.{getD-set-other}
+use lib.ListN.{getD, length}
 use borrow.Author.Tests.{eq-eqb, lt-ltb, le-ltb, ltb-true}
 use Rattle.mask.proofs.Logic.{holds, true-holds, clash, test, and-out}
 use Rattle.mask.proofs.Range.{first-of}
@@ -17,50 +16,17 @@ use Rattle.game.specs.Support.{empty}
 use Rattle.game.specs.Arc.{arcLoss}
 use Rattle.game.specs.Forward.{forwardLoss, forwardNamed}
 use Rattle.game.specs.LookAhead.{aheadNamed}
-use Rattle.game.specs.Reasons.{Sheet, surviving, revise, pass, sameDomains, passes, revisions, loop, explainArc, explainAhead}
+use Rattle.game.specs.Reasons.{revisions, explainArc, explainAhead}
 use Rattle.arrays.specs.Arrays.{States}
 use Rattle.arrays.specs.Words.{listIn, whyIn}
 use Rattle.arrays.proofs.WordLaws.{length-listIn, length-whyIn, getD-listIn, holding-domain, holding-own}
-use Rattle.arc_order.proofs.Revising.{Revised, kept, cut, revise-cases}
-use Rattle.arc_order.proofs.Loops.{loop-keeps}
-use Rattle.arc_order.proofs.Waiting.{Sized, revisions-sized}
+use Rattle.arc_order.proofs.Waiting.{Sized, revisions-sized, revisions-keep}
 use Rattle.arc_passes.proofs.Sheets.{sheetIn, sheet-sized}
 use Rattle.arc_rule.specs.ArcRule.{Arced}
 use Rattle.forward_rule.specs.Replies.{Nonzero, aheadValue, aheadVariable, conflictIn}
 use Rattle.forward_rule.proofs.RuleLaws.{loss-named, ahead-named, conflict-before}
 use Rattle.turn_rules.specs.RuledTurn.{Replied}
 use Rattle.turn_rules.proofs.AfterArc.{empty-loses}
-
--- Revisions keep the mask of a universal variable.
-module _ (P : Problem) (j : ℕ) (u : P .universal j ≡ true) where
-  revise-keeps : (x k : ℕ) (s : Sheet) → getD (revise P x k s .list) j 0 ≡ getD (s .list) j 0
-  revise-keeps x k s = go (revise P x k s) (revise-cases P x k s)
-    where
-      go : (r : Sheet) → Revised P x k s r → getD (r .list) j 0 ≡ getD (s .list) j 0
-      go r (kept h) = refl
-      go r (cut t c z) = getD-set-other (s .list) x j (surviving P (s .list) x k) 0 (λ e. clash (ap not (ap (P .universal) (sym e) ∙ u)) t)
-
-  pass-keeps : (s : Sheet) → getD (pass P s .list) j 0 ≡ getD (s .list) j 0
-  unfolding pass
-  pass-keeps s = loop-keeps (P .n) (λ x. loop (P .n) 0 (λ k. revise P x k)) Kept
-      (λ x t _ g. loop-keeps (P .n) (λ k. revise P x k) Kept (λ k t _ g. revise-keeps x k t ∙ g) (P .n) 0 (omega arith) t g) (P .n) 0 (omega arith) s refl
-    where
-      Kept : Sheet → Type 0
-      Kept t = getD (t .list) j 0 ≡ getD (s .list) j 0
-
-  passes-keep : (v : ℕ) (s : Sheet) → getD (passes P v s .list) j 0 ≡ getD (s .list) j 0
-  unfolding passes
-  passes-keep zero s = refl
-  passes-keep (suc v) s = go (sameDomains P (pass P s .list) (s .list)) (pass-keeps s) (passes-keep v (pass P s) ∙ pass-keeps s)
-    where
-      go : (b : Bool) → getD (pass P s .list) j 0 ≡ getD (s .list) j 0 → getD (passes P v (pass P s) .list) j 0 ≡ getD (s .list) j 0
-          → getD (cond b (pass P s) (passes P v (pass P s)) .list) j 0 ≡ getD (s .list) j 0
-      go true h k = h
-      go false h k = k
-
-  arc-keeps : (l R : List ℕ) → getD (explainArc P l R .list) j 0 ≡ getD l j 0
-  unfolding explainArc revisions
-  arc-keeps l R = passes-keep (16 * P .n) (record { list = l; why = R })
 
 -- An emptied existential domain is a loss of rule 1.
 emptied-loses : (P : Problem) (l : List ℕ) (j : ℕ) → j < P .n → P .universal j ≡ false → getD l j 0 ≡ 0 → T (arcLoss P (domains l))
@@ -85,7 +51,7 @@ module _ (P : Problem) (n universal : ℕ) (near index rows : List ℕ) (st : St
       let l = explainArc P (listIn n w) (whyIn n w) .list in
       let k : getD l j 0 ≡ 0 = sym (ap (λ (u : List ℕ). getD u j 0) (t .words) ∙ holding-domain n (st .most) w long _ _ j h) ∙ m in
       test (P .universal j)
-      (λ u. z j h (sym (arc-keeps P j (holds u) (listIn n w) (whyIn n w) ∙ getD-listIn n w j h) ∙ k))
+      (λ u. z j h (sym (revisions-keep P j (holds u) (sheetIn n w) ∙ getD-listIn n w j h) ∙ k))
       (λ u. clash {b = arcLoss P (domains l)} (sym (t .loss) ∙ e) (emptied-loses P l j (rw (st .size) h) u k))
 
   -- The code of rule 3 at i.

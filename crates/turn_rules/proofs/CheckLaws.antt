@@ -67,7 +67,7 @@ module _ (P : Problem) (n universal : ℕ) (near index rows : List ℕ) (st : St
   unfolding explainForward forward masksOf
   mask-listed j h = getD-listOf (P .n) (λ j. maskOf 16 (F j)) j (rw (st .size) h)
 
-  mask-after : (u : List ℕ) (lost : Bool) (q : ℕ) → Replied n w u lost q (explainForward P x a (listIn n w) (whyIn n w)) → (j : ℕ) → j < n → getD u j 0 ≡ maskOf 16 (F j)
+  pub mask-after : (u : List ℕ) (lost : Bool) (q : ℕ) → Replied n w u lost q (explainForward P x a (listIn n w) (whyIn n w)) → (j : ℕ) → j < n → getD u j 0 ≡ maskOf 16 (F j)
   mask-after u lost q t j h = ap (λ (u : List ℕ). getD u j 0) (t .words) ∙ holding-domain n (st .most) w long _ _ j h ∙ mask-listed j h
 
   loss-is : (v : ℕ) → v ≡ forwardNamed P x a (listIn n w) → explainForward P x a (listIn n w) (whyIn n w) .loss ≡ ltb v n
@@ -181,7 +181,7 @@ module _ (P : Problem) (n universal : ℕ) (near index rows : List ℕ) (st : St
 -- The code of one check, with the lowest value a of x.
 module _ (P : Problem) (n universal : ℕ) (near index rows : List ℕ) (st : States P n universal near index rows) (x : ℕ) (hx : x < n) (w : List ℕ) (long : 96 ≤ length w)
     (small : (k : ℕ) → getD w k 0 < 65536) (z : Nonzero n w) (a : ℕ) (low : a ≡ first 16 (bit (getD w x 0))) (v : ℕ) (u : List ℕ) (e : v ≡ forwardNamed P x a (listIn n w)) (f : u ≡ afterForward P n x a w) where
-  value-lt : a < 16
+  pub value-lt : a < 16
   value-lt = rw low (low-lt 16 (getD w x 0) (small x) (z x hx))
 
   pub play-lost : v < n → (q : ℕ) → q ≡ conflictIn P x v u → Replied n w u true q (explainForward P x (lowestOf w x) (listIn n w) (whyIn n w))

@@ -2,14 +2,18 @@
 use mathlib.Core.Path.{_≡_}
 use mathlib.Core.Bool.{Bool, true, false}
 use mathlib.Core.List.{List}
+use mathlib.Core.Logic.{_⊎_}
 use Prim.Native.Nat.{ℕ, _-_, _^_, _≤_, _<_}
+use lib.Dec.{T}
 use lib.ListN.{getD, length}
 use Rattle.mask.specs.Range.{first}
 use Rattle.mask.specs.Mask.{bit}
 use Rattle.game.specs.Problem.{Problem}
+use Rattle.game.specs.Rule.{uses}
 use Rattle.game.specs.Reasons.{Step, choose, explainForward, explainChecks, explainArc, explainAhead, explained}
 use Rattle.arrays.specs.Arrays.{States}
 use Rattle.arrays.specs.Words.{listIn, whyIn, holding}
+use Rattle.arc_rule.specs.ArcRule.{Calm}
 use Rattle.forward_rule.specs.Replies.{Nonzero}
 
 -- The arrays state some problem: without one nothing is known of the words between two rules.
@@ -28,6 +32,21 @@ pub record Replied (n : ℕ) (entry exit : List ℕ) (lost : Bool) (conflict : �
 -- Where nothing is lost, no variable is without a value.
 abbrev pub Lasting : ℕ → List ℕ → Bool → Type 0
 Lasting n w lost = lost ≡ false → Nonzero n w
+
+-- Rule 2 for the plays from c on, below d, turned the words w into w': no domain gained a value, and of those that are not played there the
+-- domains outside the mask m stayed.
+pub record Narrowed (n c d m : ℕ) (w w' : List ℕ) : Type 0 where
+  pub less : (k a : ℕ) → k < n → T (bit (getD w' k 0) a) → T (bit (getD w k 0) a)
+  pub kept : (k : ℕ) → k < n → (k < c) ⊎ (d ≤ k) → bit m k ≡ false → getD w' k 0 ≡ getD w k 0
+
+-- A variable outside the mask r was not narrowed and is not one of the plays from c on, and c is not 0.
+abbrev pub Outside : (n c d narrowed r : ℕ) → Type 0
+Outside n c d narrowed r = (k : ℕ) → k < n → bit r k ≡ false → (¬ (c ≡ 0)) × (bit narrowed k ≡ false) × ((k < c) ⊎ (d ≤ k))
+
+-- Where c is not 0, rule 1 in the turn above left a list in which no variable has an effect on another, and only the plays from c on are new.
+abbrev pub Settled : (n universal : ℕ) (near index rows : List ℕ) (S c d : ℕ) (w : List ℕ) → Type 0
+Settled n universal near index rows S c d w =
+    uses S 1 ≡ true → ¬ (c ≡ 0) → (x k : ℕ) → x < n → k < n → (k < c) ⊎ (d ≤ k) → Calm near index rows universal w x k
 
 -- p is a list of d plays, and the words from c on hold them.
 pub record Plays (c d : ℕ) (p w : List ℕ) : Type 0 where

@@ -1,25 +1,30 @@
 // Rules 2, 1 and 3 of a turn, one after another: a loss ends the turn. Every public function here is for the crate of the
 // search.
 ghost use mathlib.Core.Path.{_≡_};
-ghost use mathlib.Core.Bool.{true, not, _&&_};
-ghost use Prim.Native.Nat.{_≤_, _<_};
+ghost use mathlib.Core.Bool.{true, false, not, _&&_};
+ghost use Prim.Native.Nat.{_+_, _≤_, _<_};
 ghost use lib.Dec.{ltb};
 ghost use lib.ListN.{length};
 ghost use Rattle.game.specs.Rule.{uses};
 ghost use Rattle.arrays.specs.Arrays.{InRange};
 ghost use Rattle.forward_rule.specs.Replies.{Nonzero};
-ghost use Rattle.turn_rules.specs.RuledTurn.{Stated, Lasting, CheckedPlay, CheckedPlays, ChecksTurn, ArcTurn, AheadTurn, RuledTurn};
+ghost use Rattle.arc_rule.specs.ArcRule.{CalmBut};
+ghost use Rattle.turn_rules.specs.RuledTurn.{Stated, Lasting, Narrowed, Outside, Settled, CheckedPlay, CheckedPlays, ChecksTurn, ArcTurn, AheadTurn, RuledTurn};
 use arc_rule::arc;
+use arc_rule::everyone;
 use forward_rule::forward;
 use forward_rule::forward_conflict;
 use forward_rule::look_ahead;
 use mask::contains;
 use mask::lowest;
+use mask::single_32;
 
-// What the rules of a turn say: a loss with its conflict set, or none.
+// What the rules of a turn say: a loss with its conflict set, or none; and the variables other than the plays that rule 2
+// took values from.
 pub struct Said {
     pub loss: bool,
     pub conflict: u32,
+    pub narrowed: u32,
 }
 
 // Rule 2 for the play of variable x.
@@ -33,19 +38,21 @@ fn check_play(
     w: &mut [u16],
 ) -> Said
     requires { ⌜ (n ≤ 32) × (x < n) × (96 ≤ length (now w)) × InRange (now index) × Nonzero n (now w) × Stated n universal (now near) (now index) (now rows) ⌝ }
-    ensures { λ r. ⌜ CheckedPlay n universal (now (near .entry)) (now (index .entry)) (now (rows .entry)) x (now (w .entry)) (now (w .exit)) (r .loss) (r .conflict) × Lasting n (now (w .exit)) (r .loss) ⌝ }
+    ensures { λ r. ⌜ CheckedPlay n universal (now (near .entry)) (now (index .entry)) (now (rows .entry)) x (now (w .entry)) (now (w .exit)) (r .loss) (r .conflict) × Lasting n (now (w .exit)) (r .loss) × (r .loss ≡ false → Narrowed n x (x + 1) (r .narrowed) (now (w .entry)) (now (w .exit))) ⌝ }
 {
     let a = lowest(w[x]) as usize;
-    let v = forward(near, index, rows, n, universal, x, a, w);
-    if v < n {
+    let f = forward(near, index, rows, n, universal, x, a, w);
+    if f.named < n {
         return Said {
             loss: true,
-            conflict: forward_conflict(near, w, x, v),
+            conflict: forward_conflict(near, w, x, f.named),
+            narrowed: 0,
         };
     }
     Said {
         loss: false,
         conflict: 0,
+        narrowed: f.narrowed,
     }
 }
 
@@ -61,19 +68,22 @@ fn check_plays(
     w: &mut [u16],
 ) -> Said
     requires { ⌜ (n ≤ 32) × (c ≤ d) × (d ≤ n) × (96 ≤ length (now w)) × InRange (now index) × Nonzero n (now w) × Stated n universal (now near) (now index) (now rows) ⌝ }
-    ensures { λ r. ⌜ CheckedPlays n universal (now (near .entry)) (now (index .entry)) (now (rows .entry)) c d (now (w .entry)) (now (w .exit)) (r .loss) (r .conflict) × Lasting n (now (w .exit)) (r .loss) ⌝ }
+    ensures { λ r. ⌜ CheckedPlays n universal (now (near .entry)) (now (index .entry)) (now (rows .entry)) c d (now (w .entry)) (now (w .exit)) (r .loss) (r .conflict) × Lasting n (now (w .exit)) (r .loss) × (r .loss ≡ false → Narrowed n c d (r .narrowed) (now (w .entry)) (now (w .exit))) ⌝ }
 {
+    let mut narrowed: u32 = 0;
     let mut x = c;
     while x < d {
         let s = check_play(near, index, rows, n, universal, x, w);
         if s.loss {
             return s;
         }
+        narrowed = narrowed | s.narrowed;
         x += 1;
     }
     Said {
         loss: false,
         conflict: 0,
+        narrowed: narrowed,
     }
 }
 
@@ -108,7 +118,7 @@ fn checks_turn(
     w: &mut [u16],
 ) -> Said
     requires { ⌜ (n ≤ 32) × (c ≤ d) × (d ≤ n) × (96 ≤ length (now w)) × InRange (now index) × Nonzero n (now w) × Stated n universal (now near) (now index) (now rows) ⌝ }
-    ensures { λ r. ⌜ ChecksTurn on n universal (now (near .entry)) (now (index .entry)) (now (rows .entry)) c d (now (w .entry)) (now (w .exit)) (r .loss) (r .conflict) × Lasting n (now (w .exit)) (r .loss) ⌝ }
+    ensures { λ r. ⌜ ChecksTurn on n universal (now (near .entry)) (now (index .entry)) (now (rows .entry)) c d (now (w .entry)) (now (w .exit)) (r .loss) (r .conflict) × Lasting n (now (w .exit)) (r .loss) × (r .loss ≡ false → Narrowed n c d (r .narrowed) (now (w .entry)) (now (w .exit))) ⌝ }
 {
     if on {
         return check_plays(near, index, rows, n, universal, c, d, w);
@@ -116,7 +126,23 @@ fn checks_turn(
     Said {
         loss: false,
         conflict: 0,
+        narrowed: 0,
     }
+}
+
+// The variables that rule 1 looks at: those whose domains are not what it left in the turn above. Where c is 0 there may
+// be no such turn.
+fn changed_by(n: usize, c: usize, d: usize, narrowed: u32) -> u32
+    requires { ⌜ (n ≤ 32) × (c ≤ d) × (d ≤ n) ⌝ }
+    ensures { λ r. ⌜ Outside n c d narrowed r ⌝ }
+{
+    if c == 0 {
+        return everyone(n);
+    }
+    if c + 1 != d {
+        return everyone(n);
+    }
+    narrowed | single_32(c)
 }
 
 // Rule 1 where it is on.
@@ -127,21 +153,24 @@ fn arc_turn(
     n: usize,
     universal: u32,
     on: bool,
+    changed: u32,
     w: &mut [u16],
 ) -> Said
-    requires { ⌜ (n ≤ 32) × (96 ≤ length (now w)) × InRange (now index) × Nonzero n (now w) × Stated n universal (now near) (now index) (now rows) ⌝ }
+    requires { ⌜ (n ≤ 32) × (96 ≤ length (now w)) × InRange (now index) × Nonzero n (now w) × Stated n universal (now near) (now index) (now rows) × (on ≡ true → CalmBut n changed (now near) (now index) (now rows) universal (now w)) ⌝ }
     ensures { λ r. ⌜ ArcTurn on n universal (now (near .entry)) (now (index .entry)) (now (rows .entry)) (now (w .entry)) (now (w .exit)) (r .loss) (r .conflict) × Lasting n (now (w .exit)) (r .loss) ⌝ }
 {
     if on {
-        let o = arc(near, index, rows, n, universal, w);
+        let o = arc(near, index, rows, n, universal, changed, w);
         return Said {
             loss: o.loss,
             conflict: o.conflict,
+            narrowed: 0,
         };
     }
     Said {
         loss: false,
         conflict: 0,
+        narrowed: 0,
     }
 }
 
@@ -165,12 +194,14 @@ fn ahead_turn(
             return Said {
                 loss: true,
                 conflict: forward_conflict(near, w, d, h.variable),
+                narrowed: 0,
             };
         }
     }
     Said {
         loss: false,
         conflict: 0,
+        narrowed: 0,
     }
 }
 
@@ -186,14 +217,15 @@ pub fn run_rules(
     d: usize,
     w: &mut [u16],
 ) -> Said
-    requires { ⌜ (n ≤ 32) × (c ≤ d) × (d ≤ n) × (96 ≤ length (now w)) × InRange (now index) × Nonzero n (now w) × Stated n universal (now near) (now index) (now rows) ⌝ }
+    requires { ⌜ (n ≤ 32) × (c ≤ d) × (d ≤ n) × (96 ≤ length (now w)) × InRange (now index) × Nonzero n (now w) × Stated n universal (now near) (now index) (now rows) × Settled n universal (now near) (now index) (now rows) set c d (now w) ⌝ }
     ensures { λ r. ⌜ RuledTurn n universal (now (near .entry)) (now (index .entry)) (now (rows .entry)) set c d (now (w .entry)) (now (w .exit)) (r .loss) (r .conflict) × Lasting n (now (w .exit)) (r .loss) ⌝ }
 {
     let s = checks_turn(near, index, rows, n, universal, in_use(set, 2), c, d, w);
     if s.loss {
         return s;
     }
-    let a = arc_turn(near, index, rows, n, universal, in_use(set, 1), w);
+    let changed = changed_by(n, c, d, s.narrowed);
+    let a = arc_turn(near, index, rows, n, universal, in_use(set, 1), changed, w);
     if a.loss {
         return a;
     }

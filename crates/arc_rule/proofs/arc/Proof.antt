@@ -14,7 +14,10 @@ same-length : tie.Need-same-length
 same-length c = search needs
 
 returns : tie.Need-returns
-returns c = λ P st. arced P _ _ _ _ _ st _ _ _ _ (search needs) (λ k. omega (arith, c .before .before .before .before .before .before .slice-known .given k)) (c .before .before .before .before .remove-dead .ensures) (c .loss-in .ensures .0) (c .loss-in .ensures .1)
+returns c =
+    let d = c .before .before .before .before in
+    let s = d .before .before in
+    λ P st. arced P _ _ _ _ _ _ _ _ (search needs) (λ k. omega (arith, s .slice-known .given k)) _ _ (d .remove-dead .ensures .1) _ st (s .before .pre .3) (d .remove-dead .ensures .0) (c .loss-in .ensures .0) (c .loss-in .ensures .1)
 
 pub arc-spec : {M : Type 1} → statement M
 arc-spec = tie.close (tie.spec remove-dead-requires loss-in-requires same-length returns)

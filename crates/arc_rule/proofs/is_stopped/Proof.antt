@@ -16,10 +16,10 @@ first-bar-requires : tie.Need-first-bar-requires
 first-bar-requires c κs = search needs
 
 returns : tie.Need-returns
-returns c = stopped-universal _ _ _ _ _ _ _ (c .before .before .before .contains-32 .ensures) _ (c .before .before .if1 .taken) (c .first-bar .ensures)
+returns c = stopped-universal _ _ _ _ _ _ _ _ (c .before .before .before .contains-32 .ensures) _ (c .before .before .if1 .taken) (c .first-bar .ensures)
 
 returns-2 : tie.Need-returns-2
-returns-2 c = stopped-none _ _ _ _ _ _ _ (c .before .contains-32 .ensures) (c .if1 .left)
+returns-2 c = stopped-none _ _ _ _ _ _ _ _ (c .before .contains-32 .ensures) (c .if1 .left)
 
 pub is-stopped-spec : {M : Type 1} → statement M
 is-stopped-spec =

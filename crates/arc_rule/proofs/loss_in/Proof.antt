@@ -10,7 +10,7 @@ reason-requires : tie.Need-reason-requires
 reason-requires c κs = search needs
 
 returns : tie.Need-returns
-returns c = loss-emptied _ _ _ _ _ _ _ (c .before .before .lowest-emptied .ensures) _ (c .before .if1 .taken) (c .reason .ensures)
+returns c = loss-emptied _ _ _ _ _ _ _ _ (c .before .before .lowest-emptied .ensures) _ (c .before .if1 .taken) (c .reason .ensures)
 
 lowest-stopped-requires : tie.Need-lowest-stopped-requires
 lowest-stopped-requires c κs = search needs
@@ -28,13 +28,13 @@ reason-requires-2 : tie.Need-reason-requires-2
 reason-requires-2 c κs = search needs
 
 reason-requires-3 : tie.Need-reason-requires-3
-reason-requires-3 c κs = let l = stopped-barred _ _ _ _ _ _ _ _ (c .before .before .before .before .lowest-stopped .ensures) (c .before .before .before .if2 .taken) (c .before .first-bar .ensures) in search needs
+reason-requires-3 c κs = let l = stopped-barred _ _ _ _ _ _ _ _ _ (c .before .before .before .before .lowest-stopped .ensures) (c .before .before .before .if2 .taken) (c .before .first-bar .ensures) in search needs
 
 returns-2 : tie.Need-returns-2
-returns-2 c = loss-stopped _ _ _ _ _ _ _ (c .before .before .before .before .before .before .before .lowest-emptied .ensures) (c .before .before .before .before .before .before .if1 .left) _ (c .before .before .before .before .before .lowest-stopped .ensures) _ _ _ (c .before .before .before .before .if2 .taken) (c .before .before .first-bar .ensures) (c .before .reason2 .ensures) (c .reason3 .ensures)
+returns-2 c = loss-stopped _ _ _ _ _ _ _ _ (c .before .before .before .before .before .before .before .lowest-emptied .ensures) (c .before .before .before .before .before .before .if1 .left) _ (c .before .before .before .before .before .lowest-stopped .ensures) _ _ _ (c .before .before .before .before .if2 .taken) (c .before .before .first-bar .ensures) (c .before .reason2 .ensures) (c .reason3 .ensures)
 
 returns-3 : tie.Need-returns-3
-returns-3 c = loss-none _ _ _ _ _ _ _ (c .before .before .before .lowest-emptied .ensures) (c .before .before .if1 .left) _ (c .before .lowest-stopped .ensures) (c .if2 .left)
+returns-3 c = loss-none _ _ _ _ _ _ _ _ (c .before .before .before .lowest-emptied .ensures) (c .before .before .if1 .left) _ (c .before .lowest-stopped .ensures) (c .if2 .left)
 
 pub loss-in-spec : {M : Type 1} → statement M
 loss-in-spec =

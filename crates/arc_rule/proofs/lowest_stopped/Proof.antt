@@ -9,10 +9,10 @@ use Rattle.arc_rule.proofs.lowest_stopped.Statement.{statement}
 use Rattle.arc_rule.proofs.lowest_stopped.Tie as tie
 
 abbrev Inv-loop : tie.InvT-loop
-Inv-loop near index rows n universal w x₀ x = (x ≤ n) × ((j : ℕ) → j < x → stopped near index rows universal w j ≡ false)
+Inv-loop near index rows n universal touched w x₀ x = (x ≤ n) × ((j : ℕ) → j < x → stopped near index rows universal touched w j ≡ false)
 
 abbrev μ-loop : tie.MeasureT-loop
-μ-loop near index rows n universal w x₀ x = n - x
+μ-loop near index rows n universal touched w x₀ x = n - x
 
 loop-holds : tie.Need-loop-holds Inv-loop μ-loop
 loop-holds c = (search needs, λ j l. absurd (omega arith))

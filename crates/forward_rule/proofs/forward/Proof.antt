@@ -2,6 +2,7 @@ use borrow.Author.Needs.{needs}
 use denote.Ref.{now}
 use lib.Dec.{T}
 use lib.ListN.{length, length-set}
+use lib.Seq.{getD-set-other}
 use mathlib.Core.Path.{ap, _∙_, subst}
 use native.Mathlib.Omega.{arith}
 use Rattle.mask.specs.Mask.{bit}
@@ -49,12 +50,15 @@ same-length c =
 
 returns : tie.Need-returns
 returns c =
-    λ P st. let d = c .before .before .before .before .before .before in
+    let d = c .before .before .before .before .before .before in
     let s = d .before .before .before in
     let p = s .before .pre in
-    let r = c .before .before .check-each .ensures in
-    forward-ends P _ _ _ _ _ st _ _ (p .1) (p .2) _ (λ k. omega (arith, s .slice-known .given k)) (p .3) (p .5) _ _ _ _ _
-    (d .before .later .ensures) (d .single .ensures) (c .before .before .before .before .reason .ensures) (r .0) (r .1)
+    let a = s .before .args in
+    let r = c .before .before .check-each .ensures in (
+      λ P st. forward-ends P _ _ _ _ _ st _ _ (p .1) (p .2) _ (λ k. omega (arith, s .slice-known .given k)) (p .3) (p .5) _ _ _ _ _
+          (d .before .later .ensures) (d .single .ensures) (c .before .before .before .before .reason .ensures) (r .0) (r .1),
+      λ k l z b. r .2 k l b ∙ getD-set-other (now (a .w)) (a .x) k (d .single .result) 0 z,
+    )
 
 pub forward-spec : {M : Type 1} → statement M
 forward-spec =

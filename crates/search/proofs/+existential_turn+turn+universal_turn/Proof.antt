@@ -14,6 +14,7 @@ use Rattle.mask.specs.Range.{first}
 use Rattle.mask.specs.Mask.{bit}
 use Rattle.mask.proofs.Members.{low-lt, rest-lt}
 use Rattle.search.specs.TurnReply.{roomOf}
+use Rattle.search.proofs.SettledLaws.{settled}
 use Rattle.search.proofs.StandLaws.{stated, checked, nonzero, last-stands, last-replies}
 use Rattle.search.proofs.LoopLaws.{SomeLoop, EachLoop, each-less}
 use Rattle.search.proofs.WholeTurn.{AfterRules, Trying, Answered, rules-lost, left-some, child-stands, child-blank, child-fits, back-deep, mid-fits, some-begins, some-ends, some-wins, some-leaves, some-goes-on, each-begins, each-ends, each-fails, each-goes-on, each-shrinks, won-mid, won-holds}
@@ -195,7 +196,7 @@ T-calls t = (
 pub +existential-turn+turn+universal-turn-spec : {M : Type 1} → statement M
 +existential-turn+turn+universal-turn-spec = close μ-existential-turn μ-turn μ-universal-turn
     (λ t. E.spec (E-calls t) (existential-turn-at t) existential-turn.Post E-Inv E-μ
-    (λ c κs. let s = c .before .before .pre .1 in (s .0, checked _ _ _ _ _ _ _ _ _ (s .6), s .1, search needs, s .4, nonzero _ _ _ _ _ _ _ _ _ (s .6), stated _ _ _ _ _ _ _ _ _ (s .6)))
+    (λ c κs. let s = c .before .before .pre .1 in (s .0, checked _ _ _ _ _ _ _ _ _ (s .6), s .1, search needs, s .4, nonzero _ _ _ _ _ _ _ _ _ (s .6), stated _ _ _ _ _ _ _ _ _ (s .6), settled _ _ _ _ _ _ _ _ _ (λ k. omega (arith, c .before .slice-known .given k)) (s .6)))
     (λ c κs. search needs)
     (λ c. search needs)
     (λ c. let o = c .before .before .lost-with .ensures in rules-lost (E-after t (c .before .before .before .before .before .before .before)) (c .before .before .before .before .if1 .taken) _ _ _ (o .0) (o .1) (o .2))
@@ -234,7 +235,7 @@ pub +existential-turn+turn+universal-turn-spec : {M : Type 1} → statement M
     (λ c. search needs)
     (λ c. c .before .before .existential-turn .ensures))
     (λ t. U.spec (U-calls t) (universal-turn-at t) universal-turn.Post U-Inv U-μ
-    (λ c κs. let s = c .before .before .pre .1 in (s .0, checked _ _ _ _ _ _ _ _ _ (s .6), s .1, search needs, s .4, nonzero _ _ _ _ _ _ _ _ _ (s .6), stated _ _ _ _ _ _ _ _ _ (s .6)))
+    (λ c κs. let s = c .before .before .pre .1 in (s .0, checked _ _ _ _ _ _ _ _ _ (s .6), s .1, search needs, s .4, nonzero _ _ _ _ _ _ _ _ _ (s .6), stated _ _ _ _ _ _ _ _ _ (s .6), settled _ _ _ _ _ _ _ _ _ (λ k. omega (arith, c .before .slice-known .given k)) (s .6)))
     (λ c κs. search needs)
     (λ c. search needs)
     (λ c. let o = c .before .before .lost-with .ensures in rules-lost (U-after t (c .before .before .before .before .before .before .before)) (c .before .before .before .before .if1 .taken) _ _ _ (o .0) (o .1) (o .2))

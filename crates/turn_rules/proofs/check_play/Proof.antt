@@ -6,6 +6,7 @@ use native.Mathlib.Omega.{arith}
 use Rattle.mask.proofs.Logic.{true-holds}
 use Rattle.mask.proofs.Members.{low-lt}
 use Rattle.turn_rules.proofs.CheckLaws.{play-lost, play-kept, play-lasts}
+use Rattle.turn_rules.proofs.NarrowLaws.{play-narrowed}
 use Rattle.turn_rules.proofs.check_play.Statement.{statement}
 use Rattle.turn_rules.proofs.check_play.Tie as tie
 
@@ -36,13 +37,14 @@ same-length c = search needs
 
 returns : tie.Need-returns
 returns c =
-    let d = c .before .before .before .before .before in
+    let d = c .before .before .before .before .before .before in
     let s = d .before .before .before .before in
     let p = s .before .pre in
     let t = c .before .before .if1 .taken in (
-      λ P st. let f = d .forward .ensures P st in
+      λ P st. let f = d .forward .ensures .0 P st in
           play-lost P _ _ _ _ _ st _ (p .1) _ (p .2) (λ k. omega (arith, s .slice-known .given k)) (p .4) _ (d .before .before .lowest .ensures) _ _ (f .0) (f .1) t _ (c .forward-conflict .ensures P _ _ _ _ st t),
-      λ e. absurd (true-holds (sym e)),
+      (λ e. absurd (true-holds (sym e))),
+      (λ e. absurd (true-holds (sym e))),
     )
 
 same-length-2 : tie.Need-same-length-2
@@ -50,13 +52,15 @@ same-length-2 c = search needs
 
 returns-2 : tie.Need-returns-2
 returns-2 c =
-    let d = c .before .before .before in
+    let d = c .before .before .before .before in
     let s = d .before .before .before .before in
-    let p = s .before .pre in (
-      λ P st. let f = d .forward .ensures P st in
+    let p = s .before .pre in
+    let st = p .5 .states in
+    let g = d .forward .ensures .0 _ st in (
+      λ P st. let f = d .forward .ensures .0 P st in
           play-kept P _ _ _ _ _ st _ (p .1) _ (p .2) (λ k. omega (arith, s .slice-known .given k)) (p .4) _ (d .before .before .lowest .ensures) _ _ (f .0) (f .1) (c .if1 .left) _,
-      λ e. let st = p .5 .states in let f = d .forward .ensures _ st in
-          play-lasts _ _ _ _ _ _ st _ (p .1) _ (p .2) (λ k. omega (arith, s .slice-known .given k)) (p .4) _ (d .before .before .lowest .ensures) _ _ (f .0) (f .1) (c .if1 .left),
+      (λ e. play-lasts _ _ _ _ _ _ st _ (p .1) _ (p .2) (λ k. omega (arith, s .slice-known .given k)) (p .4) _ (d .before .before .lowest .ensures) _ _ (g .0) (g .1) (c .if1 .left)),
+      (λ e. play-narrowed _ _ _ _ _ _ st _ (p .1) _ (p .2) (λ k. omega (arith, s .slice-known .given k)) (p .4) _ (d .before .before .lowest .ensures) _ _ (g .0) (g .1) _ (p .0) (c .if1 .left) (d .forward .ensures .1)),
     )
 
 pub check-play-spec : {M : Type 1} → statement M

@@ -6,18 +6,20 @@ use native.Mathlib.Omega.{arith}
 use Rattle.forward_rule.specs.Replies.{Nonzero}
 use Rattle.mask.proofs.Logic.{true-holds}
 use Rattle.turn_rules.proofs.CheckLaws.{Checking, along-start, along-turn, along-lost, along-end}
+use Rattle.turn_rules.proofs.NarrowLaws.{narrowed-none, narrowed-more}
+use Rattle.turn_rules.specs.RuledTurn.{Narrowed}
 use Rattle.turn_rules.proofs.check_plays.Statement.{statement}
 use Rattle.turn_rules.proofs.check_plays.Tie as tie
 
 abbrev Inv-loop : tie.InvT-loop
-Inv-loop near index rows n universal c d w₀ x₀ w x =
-    (x ≤ d) × (length w ≡ length w₀) × ((k : ℕ) → getD w k 0 < 65536) × Nonzero n w × Checking n universal near index rows c d x w₀ w
+Inv-loop near index rows n universal c d w₀ narrowed₀ x₀ w narrowed x =
+    (c ≤ x) × (x ≤ d) × (length w ≡ length w₀) × ((k : ℕ) → getD w k 0 < 65536) × Nonzero n w × Checking n universal near index rows c d x w₀ w × Narrowed n c d narrowed w₀ w
 
 abbrev μ-loop : tie.MeasureT-loop
-μ-loop near index rows n universal c d w₀ x₀ w x = d - x
+μ-loop near index rows n universal c d w₀ narrowed₀ x₀ w narrowed x = d - x
 
 loop-holds : tie.Need-loop-holds Inv-loop μ-loop
-loop-holds c = (c .before .pre .1, refl, (λ k. omega (arith, c .slice-known .given k)), c .before .pre .5, λ P st p s. along-start P _ _ _ p _ s)
+loop-holds c = (omega arith, c .before .pre .1, refl, (λ k. omega (arith, c .slice-known .given k)), c .before .pre .5, (λ P st p s. along-start P _ _ _ p _ s), narrowed-none _ _ _ _ _)
 
 check-play-requires : tie.Need-check-play-requires Inv-loop μ-loop
 check-play-requires c κs =
@@ -26,8 +28,8 @@ check-play-requires c κs =
     let h = c .before .loop-test .taken in
     let b = p .2 in
     let l = p .3 in
-    let e = i .1 in
-    (p .0, omega arith, omega arith, p .4, i .3, p .6)
+    let e = i .2 in
+    (p .0, omega arith, omega arith, p .4, i .4, p .6)
 
 same-length : tie.Need-same-length Inv-loop μ-loop
 same-length c = search needs
@@ -38,10 +40,11 @@ returns c =
     let p = d .before .before .before .before .before .pre in
     let i = d .before .before .before .loop .inv in
     let l = p .3 in
-    let e = i .1 in
+    let e = i .2 in
     let t = c .if1 .taken in (
-      λ P st q s. along-lost P _ _ _ _ _ st _ _ _ (p .2) q _ _ (omega arith) (i .4 P st q s) (d .before .before .loop-test .taken) _ _ _ (d .check-play .ensures .0 P st) t,
-      λ f. absurd (true-holds (sym f ∙ t)),
+      (λ P st q s. along-lost P _ _ _ _ _ st _ _ _ (p .2) q _ _ (omega arith) (i .5 P st q s) (d .before .before .loop-test .taken) _ _ _ (d .check-play .ensures .0 P st) t),
+      (λ f. absurd (true-holds (sym f ∙ t))),
+      (λ f. absurd (true-holds (sym f ∙ t))),
     )
 
 add-x : tie.Need-add-x Inv-loop μ-loop
@@ -52,31 +55,34 @@ loop-less c = search needs
 
 loop-again : tie.Need-loop-again Inv-loop μ-loop
 loop-again c =
-    let d = c .before .before .before in
+    let d = c .before .before .before .before in
     let p = d .before .before .before .before .before .pre in
     let i = d .before .before .before .loop .inv in
     let h = d .before .before .loop-test .taken in
     let l = p .3 in
-    let e = i .1 in
-    let t = c .if1 .left in
+    let g = i .0 in
+    let e = i .2 in
+    let t = c .before .if1 .left in
     let z = d .check-play .ensures .1 t in (
       omega arith,
+      omega arith,
       search needs,
-      (λ k. omega (arith, c .before .slice-known2 .given k)),
+      (λ k. omega (arith, c .before .before .slice-known2 .given k)),
       z,
-      λ P st q s. along-turn P _ _ _ _ _ st _ _ _ (p .2) q _ _ (omega arith) (i .4 P st q s) h _ _ _ (d .check-play .ensures .0 P st) t z,
+      (λ P st q s. along-turn P _ _ _ _ _ st _ _ _ (p .2) q _ _ (omega arith) (i .5 P st q s) h _ _ _ (d .check-play .ensures .0 P st) t z),
+      narrowed-more _ _ _ _ _ _ _ _ _ g h (i .6) (d .check-play .ensures .2 t),
     )
 
 same-length-2 : tie.Need-same-length-2 Inv-loop μ-loop
-same-length-2 c = c .before .loop .inv .1
+same-length-2 c = c .before .loop .inv .2
 
 returns-2 : tie.Need-returns-2 Inv-loop μ-loop
 returns-2 c =
     let p = c .before .before .before .pre in
     let i = c .before .loop .inv in
     let l = p .3 in
-    let e = i .1 in
-    (λ P st q s. along-end P _ _ _ _ _ st _ _ _ (p .2) q _ _ (omega arith) (i .4 P st q s) (c .loop-test .left) (i .2) _, λ _. i .3)
+    let e = i .2 in
+    ((λ P st q s. along-end P _ _ _ _ _ st _ _ _ (p .2) q _ _ (omega arith) (i .5 P st q s) (c .loop-test .left) (i .3) _), (λ _. i .4), (λ _. i .6))
 
 pub check-plays-spec : {M : Type 1} → statement M
 check-plays-spec =

@@ -1,6 +1,8 @@
 use mathlib.Core.Path.{sym, _∙_}
 use Rattle.mask.proofs.Logic.{true-holds}
 use Rattle.turn_rules.proofs.TurnLaws.{ahead-below, turn-checked, turn-narrowed, turn-ends}
+use Rattle.turn_rules.proofs.NarrowLaws.{calm-after}
+use native.Mathlib.Omega.{arith}
 use borrow.Author.Needs.{needs}
 use Rattle.turn_rules.proofs.run_rules.Statement.{statement}
 use Rattle.turn_rules.proofs.run_rules.Tie as tie
@@ -23,13 +25,24 @@ returns c =
       λ f. absurd (true-holds (sym f ∙ t)),
     )
 
+changed-by-requires : tie.Need-changed-by-requires
+changed-by-requires c κs = search needs
+
 in-use-requires-2 : tie.Need-in-use-requires-2
 in-use-requires-2 c κs = search needs
 
 arc-turn-requires : tie.Need-arc-turn-requires
 arc-turn-requires c κs =
-    let p = c .before .before .before .before .before .before .before .before .before .pre in
-    (p .0, search needs, p .4, c .before .before .before .before .before .checks-turn .ensures .1 (c .before .before .if1 .left), p .6)
+    let p = c .before .before .before .before .before .before .before .before .before .before .pre in
+    let d = c .before .before .before .before .before .before in
+    let f = c .before .before .before .if1 .left in (
+      p .0,
+      search needs,
+      p .4,
+      d .checks-turn .ensures .1 f,
+      p .6,
+      calm-after _ _ _ _ _ _ _ _ _ _ _ _ (λ k. omega (arith, c .before .before .before .before .slice-known2 .given k)) (p .7) (d .checks-turn .ensures .2 f) (c .before .before .changed-by .ensures) _ (c .before .in-use2 .ensures),
+    )
 
 same-length-2 : tie.Need-same-length-2
 same-length-2 c = search needs
@@ -37,10 +50,10 @@ same-length-2 c = search needs
 returns-2 : tie.Need-returns-2
 returns-2 c =
     let e = c .before .before .before in
-    let d = e .before .before .before .before .before .before in
+    let d = e .before .before .before .before .before .before .before in
     let p = d .before .before .before .before .pre in
     let t = c .if2 .taken in (
-      λ P st q s. turn-narrowed P _ _ _ _ _ st _ _ _ q _ s (p .3) _ (d .before .before .in-use .ensures) _ _ _ (d .checks-turn .ensures .0 P st q s) (e .before .before .before .if1 .left)
+      λ P st q s. turn-narrowed P _ _ _ _ _ st _ _ _ q _ s (p .3) _ (d .before .before .in-use .ensures) _ _ _ (d .checks-turn .ensures .0 P st q s) (e .before .before .before .before .if1 .left)
           _ (e .before .before .in-use2 .ensures) _ _ _ (e .arc-turn .ensures .0 P st) t,
       λ f. absurd (true-holds (sym f ∙ t)),
     )
@@ -50,7 +63,7 @@ ahead-used-requires c κs = search needs
 
 ahead-turn-requires : tie.Need-ahead-turn-requires
 ahead-turn-requires c κs =
-    let p = c .before .before .before .before .before .before .before .before .before .before .before .before .before .before .before .pre in
+    let p = c .before .before .before .before .before .before .before .before .before .before .before .before .before .before .before .before .pre in
     (p .0, ahead-below _ _ _ _ (c .before .ahead-used .ensures), search needs, p .4, c .before .before .before .before .before .arc-turn .ensures .1 (c .before .before .if2 .left), p .6)
 
 same-length-3 : tie.Need-same-length-3
@@ -59,10 +72,10 @@ same-length-3 c = search needs
 returns-3 : tie.Need-returns-3
 returns-3 c =
     let e = c .before .before .before .before .before .before in
-    let d = e .before .before .before .before .before .before in
+    let d = e .before .before .before .before .before .before .before in
     let p = d .before .before .before .before .pre in
     let g = c .before .before .before .if2 .left in (
-      λ P st q s. turn-ends P _ _ _ _ _ st _ _ _ q _ s (p .3) _ (d .before .before .in-use .ensures) _ _ _ (d .checks-turn .ensures .0 P st q s) (e .before .before .before .if1 .left)
+      λ P st q s. turn-ends P _ _ _ _ _ st _ _ _ q _ s (p .3) _ (d .before .before .in-use .ensures) _ _ _ (d .checks-turn .ensures .0 P st q s) (e .before .before .before .before .if1 .left)
           _ (e .before .before .in-use2 .ensures) _ _ _ (e .arc-turn .ensures .0 P st) g _ (c .before .before .ahead-used .ensures) _ _ (c .ahead-turn .ensures P st),
       λ _. e .arc-turn .ensures .1 g,
     )
@@ -75,6 +88,7 @@ run-rules-spec =
     checks-turn-requires
     same-length
     returns
+    changed-by-requires
     in-use-requires-2
     arc-turn-requires
     same-length-2
