@@ -1,36 +1,31 @@
 use borrow.Author.Needs.{needs}
+use Rattle.report.proofs.PutLaws.{put-more, put-last, put-start, room-start, room-first, room-next}
+use Rattle.report.specs.Text.{replyText}
 use Rattle.report.proofs.render_reply.Statement.{statement}
 use Rattle.report.proofs.render_reply.Tie as tie
-use Rattle.report.proofs.render_reply.Reads as reads
-use Rattle.report.proofs.render_reply.Lts as lts
-use Rattle.report.proofs.lines.put_answer.Reads as put-answer-reads
-use Rattle.report.proofs.lines.put_head.Reads as put-head-reads
-use Rattle.report.proofs.lines.put_next.Reads as put-next-reads
-use Rattle.report.proofs.lines.put_options.Reads as put-options-reads
 
--- src/lib.rt:35:9
 put-head-requires : tie.Need-put-head-requires
-put-head-requires c κs = ?
+unfolding replyText
+put-head-requires c κs = room-first _ (room-start (c .before .before .pre))
 
--- src/lib.rt:36:9
 put-answer-requires : tie.Need-put-answer-requires
-put-answer-requires c κs = ?
+unfolding replyText
+put-answer-requires c κs = room-first _ (room-next _ (room-start (c .before .before .before .before .before .before .pre)) (c .before .before .before .put-head .ensures))
 
--- src/lib.rt:37:9
 put-next-requires : tie.Need-put-next-requires
-put-next-requires c κs = ?
+unfolding replyText
+put-next-requires c κs = room-first _ (room-next _ (room-next _ (room-start (c .before .before .before .before .before .before .before .before .before .before .pre)) (c .before .before .before .before .before .before .before .put-head .ensures)) (c .before .before .before .put-answer .ensures))
 
--- src/lib.rt:38:5
 put-options-requires : tie.Need-put-options-requires
-put-options-requires c κs = ?
+unfolding replyText
+put-options-requires c κs = room-first _ (room-next _ (room-next _ (room-next _ (room-start (c .before .before .before .before .before .before .before .before .before .before .before .before .before .before .pre)) (c .before .before .before .before .before .before .before .before .before .before .before .put-head .ensures)) (c .before .before .before .before .before .before .before .put-answer .ensures)) (c .before .before .before .put-next .ensures))
 
--- src/lib.rt:20:1
 same-length : tie.Need-same-length
 same-length c = search needs
 
--- src/lib.rt:20:1
 returns : tie.Need-returns
-returns c = ?
+unfolding replyText
+returns c = put-start (c .before .before .before .before .before .before .before .before .before .before .before .before .before .before .before .before .before .pre) (put-more _ (c .before .before .before .before .before .before .before .before .before .before .before .before .before .before .put-head .ensures) (put-more _ (c .before .before .before .before .before .before .before .before .before .before .put-answer .ensures) (put-more _ (c .before .before .before .before .before .before .put-next .ensures) (put-last (c .before .before .put-options .ensures)))))
 
 pub render-reply-spec : {M : Type 1} → statement M
 render-reply-spec =
