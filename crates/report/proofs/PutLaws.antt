@@ -26,10 +26,10 @@ put-behind {l} {l'} {l''} {xs} {ys} {at} {r} {r'} p q =
     record {
       ends = omega (arith, length-append xs ys, p .ends, q .ends);
       bytes =
-        q .bytes
-        ∙ ap (λ (z : List ℕ). stored z r ys) (p .bytes)
-        ∙ ap (λ (i : ℕ). stored (stored l at xs) i ys) (p .ends)
-        ∙ stored-more xs ys l at (length xs) refl;
+          q .bytes
+          ∙ ap (λ (z : List ℕ). stored z r ys) (p .bytes)
+          ∙ ap (λ (i : ℕ). stored (stored l at xs) i ys) (p .ends)
+          ∙ stored-more xs ys l at (length xs) refl;
     }
 
 -- The parts of a text: the first and then the others; the last alone.
