@@ -1,61 +1,31 @@
 // What the judging program prints of the bytes of a file: document 01's lines, or the one line of a refusal. The room of the
 // searches is held here. `report_file` is for the program judge.
+ghost use mathlib.Core.Path.{_≡_};
+ghost use mathlib.Core.List.{_++_};
+ghost use Prim.Native.Nat.{_≤_};
+ghost use lib.ListN.{length, drop};
+ghost use Rattle.rules.specs.Alone.{Bytes};
+ghost use Rattle.reporting.specs.Reporting.{setUsed, reportOf, Holds, ReportsAccepted};
+
+mod first;
+
 use file_layout::Rules;
-use judging::Judged;
-use judging::judge;
-use marking::Marked;
-use marking::mark;
+use first::first_marks;
+use first::is_won;
 use mask::contains_32;
-use position::fresh;
 use problem_file::Header;
 use problem_file::read;
 use report::render_refusal;
 use report::render_reply;
 use rule_set::RuleSet;
 
-// The winning values of the first variable, and its domain.
-struct First {
-    winning: u16,
-    domain: u16,
-}
-
 // The number of the rule set that the judging program uses.
-fn set_used(rules: Rules) -> usize {
+fn set_used(rules: Rules) -> usize
+    ensures { λ r. ⌜ r ≡ setUsed rules ⌝ }
+{
     match rules {
         Rules::Absent => RuleSet::USUAL.bits as usize,
         Rules::Given(k) => k as usize,
-    }
-}
-
-// Whether the file's problem is won.
-fn is_won(f: &[u8], set: usize) -> bool {
-    let mut room = [0u16; 4224];
-    let j = judge(f, fresh(), set, &mut room);
-    match j {
-        Judged::Won => true,
-        Judged::Lost => false,
-        Judged::Refused(_) => false,
-        Judged::RefusedAt(_, _) => false,
-    }
-}
-
-// The marks of the first variable.
-fn first_marks(f: &[u8], set: usize) -> First {
-    let mut room = [0u16; 4224];
-    let k = mark(f, fresh(), set, &mut room);
-    match k {
-        Marked::Values(winning, domain) => First {
-            winning: winning,
-            domain: domain,
-        },
-        Marked::Refused(_) => First {
-            winning: 0,
-            domain: 0,
-        },
-        Marked::RefusedAt(_, _) => First {
-            winning: 0,
-            domain: 0,
-        },
     }
 }
 
@@ -67,14 +37,21 @@ fn report_accepted(
     set: usize,
     universal: bool,
     out: &mut [u8; 1024],
-) -> usize {
+) -> usize
+    ensures { λ r. ⌜ r ≤ 1024 ⌝ }
+    ensures { λ r. ⌜ ReportsAccepted (now (f .entry)) n m set universal (now (out .entry)) r (now (out .exit)) ⌝ }
+{
     let won = is_won(f, set);
     let k = first_marks(f, set);
     render_reply(n, m, set, won, 0, universal, k.domain, k.winning, out)
 }
 
 // The text for any bytes, at the start of the buffer; replies its length.
-pub fn report_file(f: &[u8], out: &mut [u8; 1024]) -> usize {
+pub fn report_file(f: &[u8], out: &mut [u8; 1024]) -> usize
+    ensures { λ r. ⌜ r ≤ 1024 ⌝ }
+    ensures { λ r. ⌜ ((bytes : Bytes (now (f .entry))) → r ≡ length (reportOf (now (f .entry)) bytes)) ⌝ }
+    ensures { λ _. ⌜ ((bytes : Bytes (now (f .entry))) → now (out .exit) ≡ reportOf (now (f .entry)) bytes ++ drop (length (reportOf (now (f .entry)) bytes)) (now (out .entry))) ⌝ }
+{
     let r = read(f);
     let h = r.header;
     match h {
