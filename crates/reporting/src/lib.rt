@@ -7,17 +7,23 @@ ghost use lib.ListN.{length, drop};
 ghost use Rattle.rules.specs.Alone.{Bytes};
 ghost use Rattle.reporting.specs.Reporting.{setUsed, reportOf, Holds, ReportsAccepted};
 
-mod first;
+mod opening;
 
 use file_layout::Rules;
-use first::first_marks;
-use first::is_won;
 use mask::contains_32;
+use opening::first_marks;
+use opening::is_won;
 use problem_file::Header;
 use problem_file::read;
 use report::render_refusal;
 use report::render_reply;
 use rule_set::RuleSet;
+
+// The winning values of the first variable, and its domain.
+pub struct First {
+    pub winning: u16,
+    pub domain: u16,
+}
 
 // The number of the rule set that the judging program uses.
 fn set_used(rules: Rules) -> usize

@@ -1,17 +1,12 @@
 // The verdict before any play, and the marks of the first variable.
 ghost use mathlib.Core.Path.{_≡_};
 ghost use Rattle.reporting.specs.Reporting.{wonBy, marksBy, JudgesFirst, MarksFirst};
+use crate::First;
 use judging::Judged;
 use judging::judge;
 use marking::Marked;
 use marking::mark;
 use position::fresh;
-
-// The winning values of the first variable, and its domain.
-pub struct First {
-    pub winning: u16,
-    pub domain: u16,
-}
 
 fn won_by(j: Judged) -> bool
     ensures { λ r. ⌜ r ≡ wonBy j ⌝ }
