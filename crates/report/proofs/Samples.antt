@@ -1,6 +1,6 @@
 -- Document 01's own lines.
 use mathlib.Core.Path.{_≡_, refl}
-use mathlib.Core.Bool.{true, false}
+use mathlib.Core.Bool.{true}
 use mathlib.Core.List.{[], _∷_, _++_}
 use Rattle.file_bytes.specs.Bytes.{joined}
 use Rattle.mask.specs.Mask.{bit}

@@ -1,6 +1,6 @@
 -- What the judging program prints, in ASCII, line by line.
 use Prim.Native.Nat.{ℕ}
-use mathlib.Core.Bool.{Bool, true, false, cond}
+use mathlib.Core.Bool.{Bool, cond}
 use mathlib.Core.List.{List, [], _∷_}
 use Rattle.mask.specs.Mask.{bit}
 use Rattle.file_bytes.specs.Bytes.{joined}

@@ -5,7 +5,7 @@ use mathlib.Core.Bool.{Bool, true, false, cond}
 use mathlib.Core.List.{List, [], _∷_, _++_}
 use native.Mathlib.Omega.{arith}
 use lib.Dec.{T, eqb}
-use lib.ListN.{getD, length, drop, take}
+use lib.ListN.{getD, length, drop}
 use lib.Seq.{take-all}
 use borrow.Author.Tests.{le-leb, lt-ltb}
 use Rattle.mask.specs.Mask.{bit}
@@ -18,7 +18,7 @@ use Rattle.refusal.proofs.Chain.{then-ok, need-ok}
 use Rattle.rule_set.specs.RuleSet.{isRuleSet}
 use Rattle.file_layout.specs.declared.Rules.{Rules}
 use Rattle.file_layout.specs.declared.Rules.the-variants.{Absent, Given}
-use Rattle.file_layout.specs.Layout.{byte, nOf, mOf, hasRules, rulesOf, variablesAt}
+use Rattle.file_layout.specs.Layout.{byte, nOf, hasRules, rulesOf, variablesAt}
 use Rattle.file_records.specs.Records.{verdictOf}
 use Rattle.problem_file.proofs.Accepted.{Shows, accepted, read-universal}
 use Rattle.game.specs.Problem.{Problem}

@@ -2,7 +2,7 @@
 use Prim.Native.Nat.{ℕ, _≤_}
 use mathlib.Core.Path.{_≡_}
 use mathlib.Core.Bool.{Bool, true, false}
-use mathlib.Core.List.{List, [], _∷_, _++_}
+use mathlib.Core.List.{List, [], _++_}
 use lib.ListN.{getD, length, drop}
 use Rattle.refusal.specs.declared.Verdict.the-variants.{Fine}
 use Rattle.rule_set.specs.RuleSet.{usualSet}

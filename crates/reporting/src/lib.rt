@@ -5,7 +5,7 @@ ghost use mathlib.Core.List.{_++_};
 ghost use Prim.Native.Nat.{_≤_};
 ghost use lib.ListN.{length, drop};
 ghost use Rattle.rules.specs.Alone.{Bytes};
-ghost use Rattle.reporting.specs.Reporting.{setUsed, reportOf, Holds, ReportsAccepted};
+ghost use Rattle.reporting.specs.Reporting.{setUsed, reportOf, ReportsAccepted};
 
 mod opening;
 
