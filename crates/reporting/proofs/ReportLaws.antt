@@ -1,0 +1,169 @@
+-- What judging and marking tell before any play, and the text of an accepted file.
+use Prim.Native.Nat.{ℕ, _+_, _*_, _≤_, _<_}
+use mathlib.Core.Path.{_≡_, refl, sym, ap, subst, _∙_}
+use mathlib.Core.Bool.{Bool, true, false, cond}
+use mathlib.Core.List.{List, [], _∷_, _++_}
+use native.Mathlib.Omega.{arith}
+use lib.Dec.{T, eqb}
+use lib.ListN.{getD, length, drop}
+use lib.Seq.{take-all}
+use borrow.Author.Tests.{le-leb, lt-ltb}
+use Rattle.mask.specs.Mask.{bit}
+use Rattle.mask.proofs.Logic.{holds}
+use Rattle.refusal.specs.declared.Verdict.{Verdict}
+use Rattle.refusal.specs.declared.Verdict.the-variants.{Fine}
+use Rattle.refusal.specs.declared.Verdict.the-variants.{Refused as Not}
+use Rattle.refusal.specs.Told.{Told, replied, refused, refusedAt}
+use Rattle.refusal.proofs.Chain.{then-ok, need-ok}
+use Rattle.rule_set.specs.RuleSet.{isRuleSet}
+use Rattle.file_layout.specs.declared.Rules.{Rules}
+use Rattle.file_layout.specs.declared.Rules.the-variants.{Absent, Given}
+use Rattle.file_layout.specs.Layout.{byte, nOf, hasRules, rulesOf, variablesAt}
+use Rattle.file_records.specs.Records.{verdictOf}
+use Rattle.problem_file.proofs.Accepted.{Shows, accepted, read-universal}
+use Rattle.game.specs.Problem.{Problem}
+use Rattle.game.specs.Winning.{verdict, winningValues}
+use Rattle.theory.proofs.TurnLists.{legal-in}
+use Rattle.tables.specs.FileProblem.{problemOf, universalOf}
+use Rattle.rules.specs.Alone.{Bytes}
+use Rattle.rules.proofs.ReadLaws.{read-refused, read-fine}
+use Rattle.position.specs.declared.Position.{Position}
+use Rattle.position.specs.Position.{shown, playsOf, fitsIn}
+use Rattle.position.proofs.Fitting.{legal-fits}
+use Rattle.judging.specs.declared.Judged.{Judged}
+use Rattle.judging.specs.declared.Judged.the-variants.{Won, Lost, Refused, RefusedAt}
+use Rattle.judging.specs.Tests.{positionTest, roomTest, judgeTest}
+use Rattle.judging.specs.Judging.{told, repliedFor, judgeReply, judgeTold}
+use Rattle.marking.specs.declared.Marked.{Marked}
+use Rattle.marking.specs.declared.Marked.the-variants.{Values}
+use Rattle.marking.specs.declared.Marked.the-variants.{Refused as NoValues, RefusedAt as NoValuesAt}
+use Rattle.marking.specs.Marking.{markTest, markReply, markTold}
+use Rattle.marking.specs.Marking.{told as toldMarks}
+use Rattle.report.specs.Text.{replyText, refusedText}
+use Rattle.reporting.specs.declared.First.{First}
+use Rattle.reporting.specs.Reporting.{setUsed, problemText, reportOf, Holds, wonBy, marksBy, ReportsAccepted}
+
+-- ---- before any play the tests are fine
+
+module _ (P : Problem) (set : ℕ) (small : P .n ≤ 32) (rules : set ≤ 127) where
+  fresh-fits : T (fitsIn (shown []) (P .n) (P .domain))
+  fresh-fits =
+      legal-fits P (P .n) (P .domain) [] refl (sym (take-all (P .n) (P .domain) (omega (arith, P .sized))))
+      (legal-in P [] (omega arith) (λ j h. absurd (omega arith)))
+
+  fresh-position : positionTest (P .n) (P .domain) (shown []) set ≡ Fine
+  unfolding positionTest isRuleSet
+  fresh-position = then-ok _ _ (need-ok _ 8 0 (le-leb set 127 rules)) (need-ok _ 23 0 (holds fresh-fits))
+
+  fresh-room : roomTest (P .n) 4224 ≡ Fine
+  unfolding roomTest
+  fresh-room = need-ok _ 12 0 (le-leb (128 * (P .n + 1)) 4224 (omega (arith, small)))
+
+  fresh-judge : judgeTest (P .n) (P .domain) (shown []) set 4224 ≡ Fine
+  unfolding judgeTest
+  fresh-judge = then-ok _ _ fresh-position fresh-room
+
+  fresh-mark : 0 < P .n → markTest (P .n) (P .domain) (shown []) set 4224 ≡ Fine
+  unfolding markTest shown
+  fresh-mark h = then-ok _ _ fresh-position (then-ok _ _ (need-ok _ 22 0 (lt-ltb 0 (P .n) h)) fresh-room)
+
+-- ---- what is told then
+
+-- The answers by what they tell.
+saysOne : Told → Bool
+saysOne (replied []) = false
+saysOne (replied (x ∷ xs)) = eqb x 1
+saysOne (refused e) = false
+saysOne (refusedAt e p) = false
+
+won-says : (j : Judged) → wonBy j ≡ saysOne (told j)
+unfolding wonBy told saysOne
+won-says Won = refl
+won-says Lost = refl
+won-says (Refused e) = refl
+won-says (RefusedAt e p) = refl
+
+one-says : (b : Bool) → saysOne (replied (cond b 1 0 ∷ [])) ≡ b
+unfolding saysOne
+one-says true = refl
+one-says false = refl
+
+masksIn : Told → First
+masksIn (replied []) = record { winning = 0; domain = 0 }
+masksIn (replied (w ∷ [])) = record { winning = 0; domain = 0 }
+masksIn (replied (w ∷ d ∷ xs)) = record { winning = w; domain = d }
+masksIn (refused e) = record { winning = 0; domain = 0 }
+masksIn (refusedAt e p) = record { winning = 0; domain = 0 }
+
+marks-in : (k : Marked) → marksBy k ≡ masksIn (toldMarks k)
+unfolding marksBy toldMarks masksIn
+marks-in (Values w d) = refl
+marks-in (NoValues e) = refl
+marks-in (NoValuesAt e p) = refl
+
+module _ (f : List ℕ) (bytes : Bytes f) (fine : verdictOf f ≡ Fine) (p : Position) (set words : ℕ) (fresh : p ≡ shown []) (long : words ≡ 4224) (rules : set ≤ 127) where
+  abbrev P : Problem
+  P = problemOf f bytes fine
+
+  few : P .n ≤ 32
+  unfolding problemOf
+  few = accepted f fine .head .counts .most
+
+  some : 0 < P .n
+  unfolding problemOf
+  some = accepted f fine .head .counts .some
+
+  pub won-first : (j : Judged) → told j ≡ judgeTold f bytes p set words → wonBy j ≡ verdict P []
+  unfolding judgeTold judgeReply repliedFor playsOf shown
+  won-first j e =
+      won-says j
+      ∙ ap saysOne
+      (e
+      ∙ read-fine f bytes _ _ fine
+      ∙ rw (fresh, long) (ap (λ (v : Verdict). repliedFor v (cond (verdict P []) 1 0 ∷ [])) (fresh-judge P set few rules)))
+      ∙ one-says (verdict P [])
+
+  pub marks-first : (k : Marked) → toldMarks k ≡ markTold f bytes p set words → marksBy k ≡ record { winning = winningValues P []; domain = getD (P .domain) 0 0 }
+  unfolding markTold markReply repliedFor playsOf shown masksIn
+  marks-first k e =
+      let t : toldMarks k ≡ replied (winningValues P [] ∷ getD (P .domain) 0 0 ∷ []) =
+      e
+      ∙ read-fine f bytes _ _ fine
+      ∙ rw (fresh, long) (ap (λ (v : Verdict). repliedFor v (winningValues P [] ∷ getD (P .domain) 0 0 ∷ [])) (fresh-mark P set few rules some)) in
+      marks-in k ∙ ap masksIn t
+
+-- ---- the texts
+
+-- A text that is another's.
+pub holds-as : {l l' : List ℕ} {r : ℕ} (text other : List ℕ) → text ≡ other → r ≡ length text → l' ≡ text ++ drop (length text) l → Holds other l r l'
+holds-as {l} {l'} {r} text other e a b = subst (λ (t : List ℕ). Holds t l r l') e (record { ends = a; bytes = b })
+
+pub reply-same : (n m set : ℕ) (universal : Bool) {won won' : Bool} {d d' w w' : ℕ} → won ≡ won' → d ≡ d' → w ≡ w' → replyText n m set won 0 universal d w ≡ replyText n m set won' 0 universal d' w'
+reply-same n m set universal e g h = rw (e, g, h)
+
+-- The set used is a rule set.
+set-small : (f : List ℕ) → verdictOf f ≡ Fine → setUsed (rulesOf f) ≤ 127
+unfolding setUsed rulesOf
+set-small f fine = go (hasRules f) refl
+  where
+    go : (b : Bool) → hasRules f ≡ b → setUsed (cond b (Given (byte f 7)) Absent) ≤ 127
+    go true e = accepted f fine .rules e .1
+    go false e = omega arith
+
+-- The text of an accepted file by the reading's numbers.
+accepted-text : (f : List ℕ) (bytes : Bytes f) (n m : ℕ) (rules : Rules) (u : ℕ) (s : Shows f n m rules u) (set : ℕ) (universal : Bool) → set ≡ setUsed rules → universal ≡ bit u 0
+    → replyText n m set (verdict (problemOf f bytes (s .fine)) []) 0 universal (getD (problemOf f bytes (s .fine) .domain) 0 0) (winningValues (problemOf f bytes (s .fine)) []) ≡ reportOf f bytes
+unfolding reportOf problemText problemOf universalOf
+accepted-text f bytes n m rules u s set universal e g =
+    rw (e, s .set, s .variables, s .constraints, g, s .bits, read-universal f (variablesAt f) (nOf f) 0 (accepted f (s .fine) .head .counts .some)) (sym (read-fine f bytes _ _ (s .fine)))
+
+pub accepted-holds : (f : List ℕ) (bytes : Bytes f) (n m : ℕ) (rules : Rules) (u : ℕ) → Shows f n m rules u → (set : ℕ) (universal : Bool) → set ≡ setUsed rules → universal ≡ bit u 0
+    → (l : List ℕ) (r : ℕ) (l' : List ℕ) → ReportsAccepted f n m set universal l r l' → Holds (reportOf f bytes) l r l'
+accepted-holds f bytes n m rules u s set universal e g l r l' h =
+    let k : set ≤ 127 = rw (e, s .set) (set-small f (s .fine)) in
+    subst (λ (t : List ℕ). Holds t l r l') (accepted-text f bytes n m rules u s set universal e g) (h bytes (s .fine) k)
+
+-- The text of a refused one.
+pub refused-text : (f : List ℕ) (bytes : Bytes f) (e p : ℕ) → verdictOf f ≡ Not e p → refusedText e p ≡ reportOf f bytes
+unfolding reportOf
+refused-text f bytes e p q = sym (read-refused f bytes _ _ e p q)

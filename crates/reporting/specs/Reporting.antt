@@ -1,0 +1,69 @@
+-- What the judging program prints of the bytes of a file.
+use Prim.Native.Nat.{ℕ, _≤_}
+use mathlib.Core.Path.{_≡_}
+use mathlib.Core.Bool.{Bool, true, false}
+use mathlib.Core.List.{List, [], _++_}
+use lib.ListN.{getD, length, drop}
+use Rattle.refusal.specs.declared.Verdict.the-variants.{Fine}
+use Rattle.rule_set.specs.RuleSet.{usualSet}
+use Rattle.file_layout.specs.declared.Rules.{Rules}
+use Rattle.file_layout.specs.declared.Rules.the-variants.{Absent, Given}
+use Rattle.file_layout.specs.Layout.{mOf, rulesOf}
+use Rattle.file_records.specs.Records.{verdictOf}
+use Rattle.game.specs.Problem.{Problem}
+use Rattle.game.specs.Winning.{verdict, winningValues}
+use Rattle.tables.specs.FileProblem.{problemOf}
+use Rattle.rules.specs.Alone.{Bytes, readFirst}
+use Rattle.judging.specs.declared.Judged.{Judged}
+use Rattle.judging.specs.declared.Judged.the-variants.{Won, Lost, Refused, RefusedAt}
+use Rattle.marking.specs.declared.Marked.{Marked}
+use Rattle.marking.specs.declared.Marked.the-variants.{Values}
+use Rattle.marking.specs.declared.Marked.the-variants.{Refused as NoValues, RefusedAt as NoValuesAt}
+use Rattle.report.specs.Text.{replyText, refusedText}
+use Rattle.reporting.specs.declared.First.{First}
+
+-- "The judging program uses the file's `RS`, else USUAL."
+unfoldable pub setUsed : Rules → ℕ
+setUsed Absent = usualSet
+setUsed (Given k) = k
+
+-- The text for a problem with m constraints, before any play.
+unfoldable pub problemText : Problem → ℕ → ℕ → List ℕ
+problemText P m set = replyText (P .n) m set (verdict P []) 0 (P .universal 0) (getD (P .domain) 0 0) (winningValues P [])
+
+-- The text for the bytes f.
+unfoldable pub reportOf : (f : List ℕ) → Bytes f → List ℕ
+reportOf f bytes = readFirst f bytes refusedText (λ P. problemText P (mOf f) (setUsed (rulesOf f)))
+
+-- The buffer l becomes l': the text, which ends at r, and behind it what was there.
+pub record Holds (text l : List ℕ) (r : ℕ) (l' : List ℕ) : Type 0 where
+  pub ends : r ≡ length text
+  pub bytes : l' ≡ text ++ drop (length text) l
+
+-- ---- inner functions
+
+-- Whether an answer says won; the masks that an answer has, or none.
+unfoldable pub wonBy : Judged → Bool
+wonBy Won = true
+wonBy Lost = false
+wonBy (Refused e) = false
+wonBy (RefusedAt e p) = false
+
+unfoldable pub marksBy : Marked → First
+marksBy (Values winning domain) = record { winning = winning; domain = domain }
+marksBy (NoValues e) = record { winning = 0; domain = 0 }
+marksBy (NoValuesAt e p) = record { winning = 0; domain = 0 }
+
+-- Of an accepted file, under a rule set: its verdict, the marks of its first variable, its text.
+abbrev pub JudgesFirst : List ℕ → ℕ → Bool → Type 0
+JudgesFirst f set r = (bytes : Bytes f) (fine : verdictOf f ≡ Fine) → set ≤ 127 → r ≡ verdict (problemOf f bytes fine) []
+
+abbrev pub MarksFirst : List ℕ → ℕ → First → Type 0
+MarksFirst f set r =
+    (bytes : Bytes f) (fine : verdictOf f ≡ Fine) → set ≤ 127
+    → (r .winning ≡ winningValues (problemOf f bytes fine) []) × (r .domain ≡ getD (problemOf f bytes fine .domain) 0 0)
+
+abbrev pub ReportsAccepted : List ℕ → ℕ → ℕ → ℕ → Bool → List ℕ → ℕ → List ℕ → Type 0
+ReportsAccepted f n m set universal l r l' =
+    (bytes : Bytes f) (fine : verdictOf f ≡ Fine) → set ≤ 127
+    → Holds (replyText n m set (verdict (problemOf f bytes fine) []) 0 universal (getD (problemOf f bytes fine .domain) 0 0) (winningValues (problemOf f bytes fine) [])) l r l'

@@ -1,0 +1,76 @@
+// What the judging program prints of the bytes of a file: document 01's lines, or the one line of a refusal. The room of the
+// searches is held here. `report_file` is for the program judge.
+ghost use mathlib.Core.Path.{_≡_};
+ghost use mathlib.Core.List.{_++_};
+ghost use Prim.Native.Nat.{_≤_};
+ghost use lib.ListN.{length, drop};
+ghost use Rattle.rules.specs.Alone.{Bytes};
+ghost use Rattle.reporting.specs.Reporting.{setUsed, reportOf, ReportsAccepted};
+
+mod opening;
+
+use file_layout::Rules;
+use mask::contains_32;
+use opening::first_marks;
+use opening::is_won;
+use problem_file::Header;
+use problem_file::read;
+use report::render_refusal;
+use report::render_reply;
+use rule_set::RuleSet;
+
+// The winning values of the first variable, and its domain.
+pub struct First {
+    pub winning: u16,
+    pub domain: u16,
+}
+
+// The number of the rule set that the judging program uses.
+fn set_used(rules: Rules) -> usize
+    ensures { λ r. ⌜ r ≡ setUsed rules ⌝ }
+{
+    match rules {
+        Rules::Absent => RuleSet::USUAL.bits as usize,
+        Rules::Given(k) => k as usize,
+    }
+}
+
+// The text for an accepted file.
+fn report_accepted(
+    f: &[u8],
+    n: usize,
+    m: usize,
+    set: usize,
+    universal: bool,
+    out: &mut [u8; 1024],
+) -> usize
+    ensures { λ r. ⌜ r ≤ 1024 ⌝ }
+    ensures { λ r. ⌜ ReportsAccepted (now (f .entry)) n m set universal (now (out .entry)) r (now (out .exit)) ⌝ }
+{
+    let won = is_won(f, set);
+    let k = first_marks(f, set);
+    render_reply(n, m, set, won, 0, universal, k.domain, k.winning, out)
+}
+
+// The text for any bytes, at the start of the buffer; replies its length.
+pub fn report_file(f: &[u8], out: &mut [u8; 1024]) -> usize
+    ensures { λ r. ⌜ r ≤ 1024 ⌝ }
+    ensures { λ r. ⌜ ((bytes : Bytes (now (f .entry))) → r ≡ length (reportOf (now (f .entry)) bytes)) ⌝ }
+    ensures { λ _. ⌜ ((bytes : Bytes (now (f .entry))) → now (out .exit) ≡ reportOf (now (f .entry)) bytes ++ drop (length (reportOf (now (f .entry)) bytes)) (now (out .entry))) ⌝ }
+{
+    let r = read(f);
+    let h = r.header;
+    match h {
+        Header::Refused(number, place) => render_refusal(number as usize, place, out),
+        Header::Accepted(n, m, rules, u) => {
+            report_accepted(
+                f,
+                n as usize,
+                m as usize,
+                set_used(rules),
+                contains_32(u, 0),
+                out,
+            )
+        }
+    }
+}
