@@ -1,35 +1,30 @@
-// What the trials of judging share: positions in the stored cases, a judgement in a room that is dirty and longer than what is
-// lent, and a search with all that it finds. For the trial programs alone.
-ghost use Prim.Native.Nat.{_≤_};
-
+// What the trials of judging and marking share: stored games and calls, positions, a judgement or a marking in a room that is
+// dirty and longer than what is lent, and a search with all that it finds. For the trial programs alone.
 mod along;
+mod positions;
 mod rooms;
 mod searches;
+mod sets;
+mod stored;
 
 pub use along::conflict_along;
-use position::Position;
+pub use positions::after;
+pub use positions::position_at;
 pub use rooms::Answer;
 pub use rooms::judges;
+pub use rooms::left;
+pub use rooms::marks;
 pub use rooms::refused;
 pub use rooms::refused_at;
+pub use rooms::same;
+pub use rooms::told_marks;
+pub use rooms::values;
 pub use rooms::verdict;
 pub use searches::searched;
-use vectors::byte;
-
-// The position with these plays whose first k places stand in s from p on.
-pub fn position_at(s: &[u8], p: usize, plays: usize, k: usize) -> Position
-    requires { ⌜ p ≤ 2000000 ⌝ }
-{
-    let mut values = [0u8; 32];
-    let mut i = 0;
-    while i < 32 {
-        if i < k {
-            values[i] = byte(s, p + i) as u8;
-        }
-        i += 1;
-    }
-    Position {
-        plays: plays,
-        values: values,
-    }
-}
+pub use sets::judges_under_all;
+pub use sets::marks_under_all;
+pub use stored::Call;
+pub use stored::Game;
+pub use stored::call_at;
+pub use stored::game_at;
+pub use stored::refusal_of;

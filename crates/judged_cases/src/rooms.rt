@@ -1,12 +1,15 @@
-// A judgement in a dirty room.
+// A judgement or a marking in a dirty room.
 ghost use Prim.Native.Nat.{_≤_};
 ghost use lib.ListN.{length};
 use judging::Judged;
 use judging::judge;
+use marking::Marked;
+use marking::mark;
 use position::Position;
 use refusal::both;
 
-// What judging answers, as numbers: kind 0 is lost, 1 won, 2 a refusal by number, 3 a file's refusal with its place.
+// What judging or marking answers, as numbers: kind 0 is lost, 1 won, 2 a refusal by number, 3 a file's refusal with its place;
+// 4 are the winning values, in place of the number, and the domain, in place of the place.
 pub struct Answer {
     pub kind: usize,
     pub number: usize,
@@ -38,6 +41,15 @@ pub fn refused_at(number: usize, place: usize) -> Answer {
     }
 }
 
+// The winning values of a domain.
+pub fn values(winning: usize, domain: usize) -> Answer {
+    Answer {
+        kind: 4,
+        number: winning,
+        place: domain,
+    }
+}
+
 fn told(r: Judged) -> Answer {
     match r {
         Judged::Lost => verdict(0),
@@ -47,7 +59,15 @@ fn told(r: Judged) -> Answer {
     }
 }
 
-fn same(a: Answer, b: Answer) -> bool {
+pub fn told_marks(r: Marked) -> Answer {
+    match r {
+        Marked::Values(w, d) => values(w as usize, d as usize),
+        Marked::Refused(e) => refused(e as usize),
+        Marked::RefusedAt(e, p) => refused_at(e as usize, p),
+    }
+}
+
+pub fn same(a: Answer, b: Answer) -> bool {
     both(
         a.kind == b.kind,
         both(a.number == b.number, a.place == b.place),
@@ -66,8 +86,20 @@ fn judged(f: &[u8], p: Position, set: usize, room: &mut [u16; 1280], k: usize) -
     judged_on(f, p, set, room, k)
 }
 
+fn marked_on(f: &[u8], p: Position, set: usize, room: &mut [u16], k: usize) -> Answer
+    requires { ⌜ k ≤ length (now room) ⌝ }
+{
+    told_marks(mark(f, p, set, &mut room[0..k]))
+}
+
+fn marked(f: &[u8], p: Position, set: usize, room: &mut [u16; 1280], k: usize) -> Answer
+    requires { ⌜ k ≤ 1280 ⌝ }
+{
+    marked_on(f, p, set, room, k)
+}
+
 // The first `used` words are zero, and the others those of a dirty room.
-fn left(room: &[u16; 1280], used: usize) -> bool {
+pub fn left(room: &[u16; 1280], used: usize) -> bool {
     let mut ok = true;
     let mut k = 0;
     while k < 1280 {
@@ -88,5 +120,12 @@ fn at_most_1280(k: usize) -> usize
 pub fn judges(f: &[u8], p: Position, set: usize, k: usize, a: Answer, used: usize) -> bool {
     let mut room = [7u16; 1280];
     let r = judged(f, p, set, &mut room, at_most_1280(k));
+    both(same(r, a), left(&room, used))
+}
+
+// Lent k words of a dirty room, marking answers a, and then the first `used` words are zero and all others as before.
+pub fn marks(f: &[u8], p: Position, set: usize, k: usize, a: Answer, used: usize) -> bool {
+    let mut room = [7u16; 1280];
+    let r = marked(f, p, set, &mut room, at_most_1280(k));
     both(same(r, a), left(&room, used))
 }

@@ -3,13 +3,13 @@
 // Each game is judged under every rule set; of the calls those that judge are made.
 ghost use Prim.Native.Nat.{_≤_};
 use judged_cases::Answer;
+use judged_cases::Call;
+use judged_cases::call_at;
+use judged_cases::game_at;
 use judged_cases::judges;
-use judged_cases::position_at;
-use judged_cases::refused;
-use judged_cases::refused_at;
+use judged_cases::judges_under_all;
+use judged_cases::refusal_of;
 use judged_cases::verdict;
-use position::Position;
-use refusal::either;
 use vectors::Tally;
 use vectors::byte;
 use vectors::counted;
@@ -20,30 +20,11 @@ use vectors::place;
 use vectors::report;
 use vectors::word;
 
-// The position is won (1) or lost (0) under each of the 128 sets, with up to 127 words lent more than needed.
-fn under_all_sets(f: &[u8], p: Position, n: usize, won: usize, t: Tally) -> Tally
-    requires { ⌜ n ≤ 256 ⌝ }
-{
-    let used = 128 * (n + 1);
-    let mut u = t;
-    let mut set = 0;
-    while set < 128 {
-        u = counted(u, judges(f, p, set, used + set, verdict(won), used));
-        set += 1;
-    }
-    u
-}
-
 fn one_game(s: &[u8], t: Tally) -> Tally {
-    let at = place(t.at);
-    let length = word(s, at);
-    let f = part(s, at + 2, length);
-    let n = byte(f, 2);
-    let p = at + 2 + length;
-    let plays = byte(s, p);
-    let q = p + 1 + plays;
-    let position = position_at(s, p + 1, plays, plays);
-    moved(under_all_sets(f, position, n, byte(s, q), t), q + 3 + 3 * n)
+    let g = game_at(s, t.at);
+    let f = part(s, g.start, g.length);
+    let a = verdict(byte(s, g.verdict));
+    moved(judges_under_all(f, g.position, byte(f, 2), a, t), g.next)
 }
 
 fn all_games(s: &[u8]) -> Tally {
@@ -57,46 +38,32 @@ fn all_games(s: &[u8]) -> Tally {
     t
 }
 
-// What the call answers: no file among the cases has a wrong rule set, so 8 is the call's.
-fn answer(number: usize, place: usize, won: usize) -> Answer {
-    if number == 0 {
-        return verdict(won);
+// What the call answers.
+fn answer(s: &[u8], c: Call) -> Answer {
+    if c.number == 0 {
+        return verdict(byte(s, c.answer));
     }
-    if either(number == 8, 9 < number) {
-        return refused(number);
-    }
-    refused_at(number, place)
+    refusal_of(c.number, c.place)
 }
 
-// Judging the position p, where the argument of the call stands at c.
-fn answers(s: &[u8], f: &[u8], p: Position, c: usize) -> bool
-    requires { ⌜ c ≤ 1200000 ⌝ }
+// How many words the call leaves zero, of n variables.
+fn used(c: Call, n: usize) -> usize
+    requires { ⌜ n ≤ 256 ⌝ }
 {
-    let number = byte(s, c + 3);
-    let a = answer(number, word(s, c + 4), byte(s, c + 7));
-    let used = if number == 0 {
-        128 * (byte(f, 2) + 1)
-    } else {
-        0
-    };
-    judges(f, p, byte(s, c), word(s, c + 1), a, used)
+    if c.number == 0 { 128 * (n + 1) } else { 0 }
 }
 
 // One call where it judges.
 fn one_call(s: &[u8], t: Tally) -> Tally {
-    let at = place(t.at);
-    let length = word(s, at);
-    let f = part(s, at + 2, length);
-    let p = at + 2 + length;
-    let c = p + 34;
-    let next = moved(t, c + 7 + byte(s, c + 6));
-    if byte(s, p + 33) != 4 {
+    let c = call_at(s, t.at);
+    let next = moved(t, c.next);
+    if c.kind != 4 {
         return next;
     }
-    counted(
-        next,
-        answers(s, f, position_at(s, p + 1, byte(s, p), 32), c),
-    )
+    let f = part(s, c.start, c.length);
+    let a = answer(s, c);
+    let k = used(c, byte(f, 2));
+    counted(next, judges(f, c.position, c.argument, c.room, a, k))
 }
 
 // The calls that stand from `start` on, behind their number.

@@ -1,20 +1,24 @@
-// Writes the files of generated problems: 1 to 5 variables of 1 to 4 values each, any of them universal, and any pair constrained.
+// Writes the files of generated problems: 1 to 6 variables of 1 to 5 values each, any of them universal, and any pair constrained.
 ghost use Prim.Native.Nat.{_≤_, _<_};
-use crate::draws::draw;
-use crate::plain::both;
+use plain_game::both;
+use plain_game::draw;
+use plain_game::has;
+use plain_game::put;
+use plain_game::put_mark;
+use plain_game::put_two;
 
 pub struct File {
-    pub bytes: [u8; 400],
+    pub bytes: [u8; 640],
     pub length: usize,
 }
 
 // The number of variables.
 pub fn size(problem: usize) -> usize
     requires { ⌜ problem < 65536 ⌝ }
-    ensures { λ r. ⌜ (1 ≤ r) × (r ≤ 5) ⌝ }
+    ensures { λ r. ⌜ (1 ≤ r) × (r ≤ 6) ⌝ }
 {
-    let k = draw(problem, 0, 10);
-    if k < 5 { 1 + k } else { 5 }
+    let k = draw(problem, 0, 12);
+    if k < 6 { 1 + k } else { 6 }
 }
 
 // The domain of variable i.
@@ -22,39 +26,13 @@ fn domain(problem: usize, i: usize) -> usize
     requires { ⌜ (problem < 65536) × (i < 8) ⌝ }
     ensures { λ r. ⌜ r < 65536 ⌝ }
 {
-    let k = 1 + draw(problem, 16 + i, 30);
-    let m = if k < 15 { k } else { 15 };
-    (m << draw(problem, 24 + i, 13)) % 65536
-}
-
-pub fn has(m: usize, a: usize) -> bool
-    requires { ⌜ a < 16 ⌝ }
-{
-    (m >> a) % 2 == 1
-}
-
-fn put(f: &mut [u8; 400], p: usize, b: usize) {
-    if p < 400 {
-        f[p] = (b % 256) as u8;
-    }
-}
-
-fn put_two(f: &mut [u8; 400], p: usize, w: usize)
-    requires { ⌜ p ≤ 1000000 ⌝ }
-{
-    put(f, p, w);
-    put(f, p + 1, w / 256);
-}
-
-fn put_mark(f: &mut [u8; 400], p: usize, a: usize, b: usize)
-    requires { ⌜ p ≤ 1000000 ⌝ }
-{
-    put(f, p, a);
-    put(f, p + 1, b);
+    let k = 1 + draw(problem, 16 + i, 60);
+    let m = if k < 31 { k } else { 31 };
+    (m << draw(problem, 24 + i, 12)) % 65536
 }
 
 // A rule set in every third file. Replies where the variables begin.
-fn put_set(problem: usize, f: &mut [u8; 400]) -> usize
+fn put_set(problem: usize, f: &mut [u8; 640]) -> usize
     requires { ⌜ problem < 65536 ⌝ }
     ensures { λ r. ⌜ r ≤ 8 ⌝ }
 {
@@ -67,7 +45,7 @@ fn put_set(problem: usize, f: &mut [u8; 400]) -> usize
 }
 
 // One of four variables is universal.
-fn put_variable(problem: usize, i: usize, p: usize, f: &mut [u8; 400])
+fn put_variable(problem: usize, i: usize, p: usize, f: &mut [u8; 640])
     requires { ⌜ (problem < 65536) × (i < 8) × (p ≤ 1000) ⌝ }
 {
     let side = if draw(problem, 8 + i, 4) == 0 { 65 } else { 69 };
@@ -75,8 +53,8 @@ fn put_variable(problem: usize, i: usize, p: usize, f: &mut [u8; 400])
     put_two(f, p + 2, domain(problem, i));
 }
 
-fn put_variables(problem: usize, n: usize, p: usize, f: &mut [u8; 400])
-    requires { ⌜ (problem < 65536) × (n ≤ 5) × (p ≤ 8) ⌝ }
+fn put_variables(problem: usize, n: usize, p: usize, f: &mut [u8; 640])
+    requires { ⌜ (problem < 65536) × (n ≤ 6) × (p ≤ 8) ⌝ }
 {
     let mut i = 0;
     while i < n {
@@ -104,7 +82,7 @@ fn row(problem: usize, i: usize, j: usize, a: usize) -> usize
     w
 }
 
-fn put_constraint(problem: usize, i: usize, j: usize, p: usize, f: &mut [u8; 400])
+fn put_constraint(problem: usize, i: usize, j: usize, p: usize, f: &mut [u8; 640])
     requires { ⌜ (problem < 65536) × (i < 8) × (j < 8) × (p ≤ 10000) ⌝ }
 {
     put_mark(f, p, 67, 84);
@@ -125,7 +103,7 @@ fn constrained(problem: usize, n: usize, i: usize, j: usize) -> bool
 }
 
 // The constraint of pair k at p, if it has one. Replies how many there are, 0 or 1.
-fn put_pair(problem: usize, n: usize, k: usize, p: usize, f: &mut [u8; 400]) -> usize
+fn put_pair(problem: usize, n: usize, k: usize, p: usize, f: &mut [u8; 640]) -> usize
     requires { ⌜ (problem < 65536) × (k < 64) × (p ≤ 10000) ⌝ }
     ensures { λ r. ⌜ r ≤ 1 ⌝ }
 {
@@ -139,8 +117,8 @@ fn put_pair(problem: usize, n: usize, k: usize, p: usize, f: &mut [u8; 400]) -> 
 }
 
 // The constraints, ascending by pair, from p on. Replies how many there are.
-fn put_constraints(problem: usize, n: usize, p: usize, f: &mut [u8; 400]) -> usize
-    requires { ⌜ (problem < 65536) × (p ≤ 28) ⌝ }
+fn put_constraints(problem: usize, n: usize, p: usize, f: &mut [u8; 640]) -> usize
+    requires { ⌜ (problem < 65536) × (p ≤ 32) ⌝ }
     ensures { λ r. ⌜ r ≤ 64 ⌝ }
 {
     let mut m = 0;
@@ -153,7 +131,7 @@ fn put_constraints(problem: usize, n: usize, p: usize, f: &mut [u8; 400]) -> usi
 }
 
 // Everything but the length. Replies the length.
-fn put_file(problem: usize, f: &mut [u8; 400]) -> usize
+fn put_file(problem: usize, f: &mut [u8; 640]) -> usize
     requires { ⌜ problem < 65536 ⌝ }
 {
     let n = size(problem);
@@ -171,7 +149,7 @@ fn put_file(problem: usize, f: &mut [u8; 400]) -> usize
 pub fn written(problem: usize) -> File
     requires { ⌜ problem < 65536 ⌝ }
 {
-    let mut f = [0u8; 400];
+    let mut f = [0u8; 640];
     let k = put_file(problem, &mut f);
     File {
         bytes: f,

@@ -1,24 +1,27 @@
-// Judges generated problems beside a plain solver, from positions of all depths: under every rule set, with plays that clash,
+// Judges and marks generated problems beside a plain solver, from positions of all depths: under every rule set, with plays that clash,
 // misfits, and room that is dirty, just enough, longer or one word short. Reads nothing.
 ghost use Prim.Native.Nat.{_≤_, _<_};
 
-mod draws;
 mod files;
-mod plain;
 mod positions;
 
-use draws::draw;
 use files::size;
 use files::written;
+use judged_cases::Answer;
+use judged_cases::after;
 use judged_cases::judges;
+use judged_cases::judges_under_all;
+use judged_cases::marks_under_all;
 use judged_cases::refused;
 use judged_cases::searched;
+use judged_cases::values;
 use judged_cases::verdict;
-use plain::both;
-use plain::hold_below;
-use plain::wins;
-use position::Position;
-use positions::after;
+use plain_game::both;
+use plain_game::domain;
+use plain_game::draw;
+use plain_game::hold_below;
+use plain_game::winning;
+use plain_game::wins;
 use positions::misfit;
 use positions::plays;
 use vectors::Tally;
@@ -40,7 +43,8 @@ struct Kinds {
 }
 
 struct Trial {
-    sets: Tally,
+    verdicts: Tally,
+    marks: Tally,
     searches: Tally,
     short: Tally,
     misfits: Tally,
@@ -63,23 +67,19 @@ fn noted(k: Kinds, d: usize, won: bool, holds: bool, loses: bool) -> Kinds {
     }
 }
 
-fn number(b: bool) -> usize {
-    if b { 1 } else { 0 }
+fn judged(won: bool) -> Answer {
+    verdict(if won { 1 } else { 0 })
 }
 
-// The position is won, or lost, under each of the 128 sets, with just enough words lent or up to 63 more.
-fn under_all_sets(f: &[u8], p: Position, n: usize, won: bool, t: Tally) -> Tally
-    requires { ⌜ n ≤ 8 ⌝ }
+// What marking answers after d plays: 22 where all are played.
+fn marked(f: &[u8], n: usize, d: usize, picks: usize) -> Answer
+    requires { ⌜ (n ≤ 8) × (d ≤ 8) ⌝ }
 {
-    let used = 128 * (n + 1);
-    let a = number(won);
-    let mut u = t;
-    let mut set = 0;
-    while set < 128 {
-        u = counted(u, judges(f, p, set, used + set % 64, verdict(a), used));
-        set += 1;
+    if d < n {
+        values(winning(f, n, d, picks), domain(f, d))
+    } else {
+        refused(22)
     }
-    u
 }
 
 // One position after d plays, searched under this set, with a misfit of this kind.
@@ -92,9 +92,11 @@ fn one_position(
     kind: usize,
     x: Trial,
 ) -> Trial
-    requires { ⌜ (n ≤ 8) × (set < 128) ⌝ }
+    requires { ⌜ (n ≤ 8) × (d ≤ 8) × (set < 128) ⌝ }
 {
-    let short = 128 * (n + 1) - 1;
+    let needed = 128 * (n + 1);
+    let used = if d < n { needed } else { 0 };
+    let short = needed - 1;
     let lent = short + kind % 8;
     let p = after(picks, d);
     let q = misfit(p, n, kind);
@@ -102,7 +104,8 @@ fn one_position(
     let r = searched(f, p, set as u8);
     let k = x.kinds;
     Trial {
-        sets: under_all_sets(f, p, n, won, x.sets),
+        verdicts: judges_under_all(f, p, n, judged(won), x.verdicts),
+        marks: marks_under_all(f, p, n, marked(f, n, d, picks), used, x.marks),
         searches: counted(x.searches, r.won == won),
         short: counted(x.short, judges(f, p, set, short, refused(12), 0)),
         misfits: counted(x.misfits, judges(f, q, set, lent, refused(23), 0)),
@@ -112,8 +115,8 @@ fn one_position(
 
 // How many plays: none at first, then 1 to n.
 fn depth(problem: usize, turn: usize, n: usize) -> usize
-    requires { ⌜ (problem < 65536) × (turn < 8) × (1 ≤ n) × (n ≤ 5) ⌝ }
-    ensures { λ r. ⌜ r ≤ 5 ⌝ }
+    requires { ⌜ (problem < 65536) × (turn < 8) × (1 ≤ n) × (n ≤ 6) ⌝ }
+    ensures { λ r. ⌜ r ≤ 6 ⌝ }
 {
     if turn == 0 {
         0
@@ -123,7 +126,7 @@ fn depth(problem: usize, turn: usize, n: usize) -> usize
 }
 
 fn one_turn(problem: usize, turn: usize, f: &[u8], n: usize, x: Trial) -> Trial
-    requires { ⌜ (problem < 65536) × (turn < 8) × (1 ≤ n) × (n ≤ 5) ⌝ }
+    requires { ⌜ (problem < 65536) × (turn < 8) × (1 ≤ n) × (n ≤ 6) ⌝ }
 {
     let d = depth(problem, turn, n);
     let kind = draw(problem, 7, 5);
@@ -148,7 +151,8 @@ fn all_problems(count: usize) -> Trial
     requires { ⌜ count ≤ 65536 ⌝ }
 {
     let mut x = Trial {
-        sets: none_yet(),
+        verdicts: none_yet(),
+        marks: none_yet(),
         searches: none_yet(),
         short: none_yet(),
         misfits: none_yet(),
@@ -181,7 +185,8 @@ fn tell_kinds(k: Kinds) {
 fn main() {
     let x = all_problems(1024);
     tell_kinds(x.kinds);
-    report(b"verdicts under all sets ", x.sets);
+    report(b"verdicts under all sets ", x.verdicts);
+    report(b"marks under all sets ", x.marks);
     report(b"verdicts of searches ", x.searches);
     report(b"room one word short ", x.short);
     report(b"misfits ", x.misfits);

@@ -1,0 +1,53 @@
+use Prim.Native.Nat.{_≤_, _-_}
+use borrow.Author.Needs.{needs}
+use Rattle.trial_marks.proofs.all_games.Statement.{statement}
+use Rattle.trial_marks.proofs.all_games.Tie as tie
+
+abbrev Inv-loop : tie.InvT-loop
+Inv-loop s count x₀ k₀ x k = k ≤ count
+
+abbrev μ-loop : tie.MeasureT-loop
+μ-loop s count x₀ k₀ x k = count - k
+
+word-requires : tie.Need-word-requires Inv-loop μ-loop
+word-requires c κs = search needs
+
+none-yet-requires : tie.Need-none-yet-requires Inv-loop μ-loop
+none-yet-requires c κs = search needs
+
+none-yet-requires-2 : tie.Need-none-yet-requires-2 Inv-loop μ-loop
+none-yet-requires-2 c κs = search needs
+
+loop-holds : tie.Need-loop-holds Inv-loop μ-loop
+loop-holds c = search needs
+
+one-game-requires : tie.Need-one-game-requires Inv-loop μ-loop
+one-game-requires c κs = search needs
+
+add-k : tie.Need-add-k Inv-loop μ-loop
+add-k c = search needs
+
+loop-less : tie.Need-loop-less Inv-loop μ-loop
+loop-less c = search needs
+
+loop-again : tie.Need-loop-again Inv-loop μ-loop
+loop-again c = search needs
+
+returns : tie.Need-returns Inv-loop μ-loop
+returns c = search needs
+
+pub all-games-spec : {M : Type 1} → statement M
+all-games-spec =
+    tie.close
+    (tie.spec
+    Inv-loop
+    μ-loop
+    word-requires
+    none-yet-requires
+    none-yet-requires-2
+    loop-holds
+    one-game-requires
+    add-k
+    loop-less
+    loop-again
+    returns)
