@@ -40,14 +40,8 @@ fn all_some(n: usize, w: &[u16; 128]) -> bool
     true
 }
 
-// The plays that the turn above has checked.
-fn checked(d: usize) -> usize
-    ensures { λ r. ⌜ r ≤ d ⌝ }
-{
-    if d == 0 { 0 } else { d - 1 }
-}
-
-// The rules of the turn after d plays, and the conflict set of their loss.
+// The rules of the turn after d plays, and the conflict set of their loss. All plays are checked again, which changes
+// nothing.
 fn ruled(
     near: &[u32; 32],
     index: &[u16; 1024],
@@ -60,7 +54,7 @@ fn ruled(
 ) -> u32
     requires { ⌜ (n ≤ 32) × (d ≤ n) × InRange (now index) × Nonzero n (now w) × Stated n universal (now near) (now index) (now rows) ⌝ }
 {
-    run_rules(near, index, rows, n, universal, set, checked(d), d, w).conflict
+    run_rules(near, index, rows, n, universal, set, 0, d, w).conflict
 }
 
 // The same, where d is a number of plays and no domain is empty.
