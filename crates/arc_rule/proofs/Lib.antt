@@ -10,3 +10,5 @@ pub mod LossLaws
 pub mod ArcLaws
 -- What keeps a variable without effect on another.
 pub mod CalmLaws
+-- A variable without effect on another, in the problem and on words.
+pub mod QuietLaws

@@ -9,7 +9,7 @@ use lib.Dec.{T, eqb, ltb}
 use lib.Bits.{bitAnd}
 use lib.ListN.{getD, length, set}
 use lib.Seq.{getD-set-same, getD-set-other}
-use borrow.Author.Tests.{eqb-true}
+use borrow.Author.Tests.{eq-eqb, eqb-true, lt-ltb, le-ltb}
 use Rattle.mask.specs.Range.{some}
 use Rattle.mask.specs.Mask.{bit, maskOf}
 use Rattle.mask.proofs.Logic.{same, holds, true-holds, fails, clash, test, by-eq, and-in, and-out}
@@ -36,18 +36,15 @@ use Rattle.theory.proofs.Explained as explaining
 use Rattle.theory.proofs.Narrowed.{Trims}
 use Rattle.theory.proofs.Search.{F, foe, foe-in, Entry, trims, after}
 use Rattle.theory.proofs.TurnLists.{snoc-length}
-use Rattle.theory.proofs.Turns.{At, turn-at, entry-loss, entry-list}
+use Rattle.theory.proofs.Turns.{At, turn-at, turn-list, entry-loss, entry-list}
 use Rattle.theory.proofs.Lists.{domains-boxed}
 use Rattle.arrays.specs.Arrays.{States}
 use Rattle.arrays.specs.Words.{listIn, whyIn}
 use Rattle.arrays.proofs.WordLaws.{getD-listIn}
-use Rattle.arc_passes.specs.Passes.{leaves}
-use Rattle.arc_passes.proofs.Support.{surviving-leaves}
-use Rattle.arc_rule.specs.Loss.{barsIn}
-use Rattle.arc_rule.specs.ArcRule.{Calm}
-use Rattle.arc_rule.proofs.LossLaws.{bars-is}
+use Rattle.arc_rule.proofs.QuietLaws.{Quiet, calm-in}
 use Rattle.turn_rules.specs.RuledTurn.{Settled}
 use Rattle.search.specs.TurnReply.{TurnIn, Stands}
+use Rattle.search.proofs.StandLaws.{plays-in}
 
 -- A chain of rules without a loss ends with what its last rule leaves.
 chain-through : (r s : Ruling) (l R : List ℕ) → chain r s l R .loss ≡ false
@@ -65,16 +62,16 @@ chain-through r s l R e = go (r l R .loss) refl e
     go true f e = absurd (true-holds (sym e ∙ f))
     go false f e = (refl, e, refl)
 
-module _ (P : Problem) where
-  open Problem P using (n, universal, compatible, constrained, symmetric)
+-- A mask of one value.
+single-only : (l : List ℕ) (x v b : ℕ) → getD l x 0 ≡ 2 ^ v → T (domains l x b) → b ≡ v
+unfolding domains
+single-only l x v b e t = eqb-true b v (holds {b = eqb b v} (subst (λ (y : Bool). T y) (bit-single v b) (subst (λ (y : ℕ). T (bit y b)) e t)))
 
-  -- In the domains D variable k has no effect on x.
-  pub record Quiet (D : Domains) (x k : ℕ) : Type 0 where
-    pub lives : universal x ≡ false → T (constrained x k) → (a : ℕ) → a < 16 → T (D x a) → kills P D x a k ≡ false
-    pub unbarred : universal x ≡ true → T (constrained x k) → (a : ℕ) → a < 16 → T (D x a) → barred P D x a k ≡ false
+module _ (P : Problem) where
+  open Problem P using (n, universal, compatible, constrained, apart, symmetric, free)
 
   -- None has where rule 1 left nothing dead and found no loss.
-  quiet-all : (D : Domains) → Closed P D → arcLoss P D ≡ false → (x k : ℕ) → x < n → k < n → Quiet D x k
+  quiet-all : (D : Domains) → Closed P D → arcLoss P D ≡ false → (x k : ℕ) → x < n → k < n → Quiet P D x k
   unfolding dead kills arcLoss
   quiet-all D closed e x k lx lk = record {
     lives = λ u c a l t. fails {b = cond (universal k && ltb x k) (clashes P D x a k) (alone P D x a k)} λ s.
@@ -92,7 +89,7 @@ module _ (P : Problem) where
   unfolding barred clashes alone
   barred-local D E x a k e = rw e
 
-  quiet-less : (D E : Domains) (x k : ℕ) → Quiet D x k → E k ≡ D k → ((a : ℕ) → a < 16 → T (E x a) → T (D x a)) → Quiet E x k
+  quiet-less : (D E : Domains) (x k : ℕ) → Quiet P D x k → E k ≡ D k → ((a : ℕ) → a < 16 → T (E x a) → T (D x a)) → Quiet P E x k
   quiet-less D E x k q e less = record {
     lives = λ u c a l t. kills-local P E D x a k e ∙ q .lives u c a l (less a l t);
     unbarred = λ u c a l t. barred-local E D x a k e ∙ q .unbarred u c a l (less a l t);
@@ -135,12 +132,12 @@ module _ (P : Problem) where
         (q .0, q .2 ∙ last-list (revisions P sheet .list) (revisions P sheet .why))
     after-arc false e h = absurd (true-holds e)
 
-    left-quiet : (x k : ℕ) → x < n → k < n → Quiet (domains (explained P S c p l R .list)) x k
+    left-quiet : (x k : ℕ) → x < n → k < n → Quiet P (domains (explained P S c p l R .list)) x k
     unfolding explained
     left-quiet x k lx lk =
         let t = chain-through (choose (uses S 2) (explainChecks P (length p - c) c p)) (later-steps (uses S 1)) l R calm in
         let q = after-arc (uses S 1) one (t .1) in
-        subst (λ (m : List ℕ). Quiet (domains m) x k) (sym (t .2 ∙ q .1)) (quiet-all (domains (revisions P sheet .list)) (revisions-closed P sheet formed) (q .0) x k lx lk)
+        subst (λ (m : List ℕ). Quiet P (domains m) x k) (sym (t .2 ∙ q .1)) (quiet-all (domains (revisions P sheet .list)) (revisions-closed P sheet formed) (q .0) x k lx lk)
 
     -- The turn below, where value a of the next variable is played: only that variable may have an effect.
     module _ (h : length p < n) (a : ℕ) (m : T (domains (after P S c p l R) (length p) a)) where
@@ -159,60 +156,123 @@ module _ (P : Problem) where
       next-less x b lb t = by-eq x (length p)
           (λ e. let z = narrowing .masks .size in
           let g = getD-set-same (after P S c p l R) (length p) (2 ^ a) 0 (omega arith) in
-          let s : T (bit (2 ^ a) b) = subst (λ (y : ℕ). T (bit y b)) g (subst (λ (y : ℕ). T (bit (getD (set (after P S c p l R) (length p) (2 ^ a)) y 0) b)) e t) in
-          let f = eqb-true b a (holds {b = eqb b a} (subst (λ (y : Bool). T y) (bit-single a b) s)) in
+          let f = single-only (set (after P S c p l R) (length p) (2 ^ a)) (length p) a b g (subst (λ (y : ℕ). T (bit (getD (set (after P S c p l R) (length p) (2 ^ a)) y 0) b)) e t) in
           narrowing .sound .sub x b lb (subst (λ (y : ℕ). T (domains (after P S c p l R) y b)) (sym e) (subst (λ (y : ℕ). T (domains (after P S c p l R) (length p) y)) (sym f) m)))
           (λ e. subst (λ (d : ℕ → Bool). T (d b)) (next-off x e) t)
 
-      below-quiet : (x k : ℕ) → x < n → k < n → ¬ (k ≡ length p) → Quiet (domains next) x k
+      below-quiet : (x k : ℕ) → x < n → k < n → ¬ (k ≡ length p) → Quiet P (domains next) x k
       below-quiet x k lx lk d = quiet-less (domains (explained P S c p l R .list)) (domains next) x k (left-quiet x k lx lk) (next-off k d) (next-less x)
 
+      -- It has no effect on those before it: each has one value, and that goes with a because a is not dead.
+      module _ (x : ℕ) (lx : x < length p) (v : ℕ) (only : (b : ℕ) → T (domains next x b) → b ≡ v) where
+        abbrev D : Domains
+        D = domains (explained P S c p l R .list)
+
+        abbrev E : Domains
+        E = domains next
+
+        abbrev i : ℕ
+        i = length p
+
+        value-lt : a < 16
+        value-lt = domains-boxed n (after P S c p l R) (narrowing .masks) (length p) a m .1
+
+        played : getD next i 0 ≡ 2 ^ a
+        unfolding nextList narrowTo
+        played = let z = narrowing .masks .size in getD-set-same (after P S c p l R) (length p) (2 ^ a) 0 (omega arith)
+
+        has : T (E i a)
+        unfolding domains
+        has = subst (λ (y : ℕ). T (bit y a)) (sym played) (true-holds (bit-single a a ∙ eq-eqb a a refl))
+
+        had : T (D i a)
+        had = next-less i a value-lt has
+
+        goes : universal i ≡ false → (b : ℕ) → T (E x b) → T (compatible x b i a)
+        unfolding kills alone
+        goes u b t = rw (symmetric x b i a) (test (constrained i x) near (λ f. free i x f a b))
+          where
+            off : (j q r : Bool) → cond (j && false) q (not r) ≡ false → T r
+            off true q true e = tt
+            off false q true e = tt
+            off true q false e = true-holds (sym e)
+            off false q false e = true-holds (sym e)
+
+            near : T (constrained i x) → T (compatible i a x b)
+            near k =
+                let q : cond (universal x && ltb i x) (clashes P D i a x) (alone P D i a x) ≡ false = left-quiet i x h (omega arith) .lives u k a value-lt had in
+                let r = some-out 16 (D x) (λ y. compatible i a x y) (off (universal x) (clashes P D i a x) (some 16 (D x) (λ y. compatible i a x y)) (rw (le-ltb i x (omega arith)) at q)) in
+                let same : r .0 ≡ b = only (r .0) (subst (λ (d : ℕ → Bool). T (d (r .0))) (sym (next-off x (omega arith))) (r .2)) ∙ sym (only b t) in
+                subst (λ (y : ℕ). T (compatible i a x y)) same (r .3)
+
+        clash-none : (b : ℕ) → clashes P D x b i ≡ false → clashes P E x b i ≡ false
+        unfolding clashes
+        clash-none b e = fails {b = some 16 (E i) (λ y. not (compatible x b i y))} λ t.
+            let r = some-out 16 (E i) (λ y. not (compatible x b i y)) t in
+            clash e (some-in 16 (D i) (λ y. not (compatible x b i y)) (r .0) (r .1) (next-less i (r .0) (r .1) (r .2)) (r .3))
+
+        alone-none : universal i ≡ false → (b : ℕ) → T (E x b) → alone P E x b i ≡ false
+        unfolding alone
+        alone-none u b t = ap not (holds {b = some 16 (E i) (λ y. compatible x b i y)} (some-in 16 (E i) (λ y. compatible x b i y) a value-lt has (goes u b t)))
+
+        before-quiet : Quiet P E x i
+        unfolding kills barred
+        before-quiet = record {
+          lives = λ s k b lb t. lives (universal i) refl b t (left-quiet x i (omega arith) h .lives s k b lb (next-less x b lb t));
+          unbarred = λ s k b lb t. unbarred (universal i) refl b t (left-quiet x i (omega arith) h .unbarred s k b lb (next-less x b lb t));
+        }
+          where
+            lives : (j : Bool) → universal i ≡ j → (b : ℕ) → T (E x b) → cond (j && ltb x i) (clashes P D x b i) (alone P D x b i) ≡ false → cond (j && ltb x i) (clashes P E x b i) (alone P E x b i) ≡ false
+            lives true u b t e = rw (lt-ltb x i lx) (clash-none b (rw (lt-ltb x i lx) at e))
+            lives false u b t e = alone-none u b t
+
+            unbarred : (j : Bool) → universal i ≡ j → (b : ℕ) → T (E x b) → cond j (clashes P D x b i) (ltb x i && alone P D x b i) ≡ false → cond j (clashes P E x b i) (ltb x i && alone P E x b i) ≡ false
+            unbarred true u b t e = clash-none b e
+            unbarred false u b t e = rw (lt-ltb x i lx) (alone-none u b t)
+
   turn-quiet : (S : ℕ) (p₀ : List ℕ) → T (legal P p₀) → (c : ℕ) (p l R : List ℕ) → TurnOf P S p₀ c p l R → uses S 1 ≡ true → ¬ (c ≡ 0)
-      → (x k : ℕ) → x < n → k < n → (k < c) ⊎ (length p ≤ k) → Quiet (domains l) x k
+      → (x k : ℕ) → x < n → k < n → (c ≤ k → k < length p → x ≤ k) → Quiet P (domains l) x k
   turn-quiet S p₀ t _ _ _ _ first one z x k lx lk o = absurd (z refl)
   turn-quiet S p₀ t _ _ _ _ (below {c = c} {p = p} {l = l} {R = R} a tu h e m) one z x k lx lk o =
-      let w = turn-at P S p₀ t c p l R tu in
-      let calm : explained P S c p l R .loss ≡ false = sym (entry-loss P S c p l R (w .checked) (w .entry)) ∙ e in
-      let r : reached P S c p l .list ≡ after P S c p l R = entry-list P S c p l R (w .checked) (w .entry) h e in
-      subst (λ (y : List ℕ). Quiet (domains (nextList P y (length p) a)) x k) (sym r)
-      (below-quiet S c p l R w one calm h a (subst (λ (y : List ℕ). T (domains y (length p) a)) r m) x k lx lk (other o))
+      by-eq k (length p)
+      (λ q. let s = snoc-length P p a in
+      by-eq x k
+      (λ g. record { lives = λ u y. absurd (apart x k y g); unbarred = λ u y. absurd (apart x k y g) })
+      (λ g. let y = o (omega arith) (omega arith) in
+      back (subst (λ (j : ℕ). Quiet P (domains (nextList P (after P S c p l R) (length p) a)) x j) (sym q) (before-quiet S c p l R w one calm h a m' x (omega arith) (getD (p ++ (a ∷ [])) x 0) (only (omega arith))))))
+      (λ q. back (below-quiet S c p l R w one calm h a m' x k lx lk q))
     where
-      other : (k < length p) ⊎ (length (p ++ (a ∷ [])) ≤ k) → ¬ (k ≡ length p)
-      other (inl l) q = omega arith
-      other (inr l) q = let s = snoc-length P p a in omega arith
+      w : At P c p l R
+      w = turn-at P S p₀ t c p l R tu
 
--- On the words of a turn.
-module _ (P : Problem) (n universal : ℕ) (near index rows : List ℕ) (st : States P n universal near index rows) (w : List ℕ) (small : (k : ℕ) → getD w k 0 < 65536) where
-  calm-in : (x k : ℕ) → x < n → k < n → Quiet P (domains (listIn n w)) x k → Calm near index rows universal w x k
-  unfolding surviving domains
-  calm-in x k lx lk q = record {
-    rests = λ t u. sym (ap₂ (λ u v. bitAnd u (leaves index rows universal x k v)) dx dk) ∙ sym (surviving-leaves P n universal near index rows st l x k lx lk (rw dx (small x))) ∙ whole (st .side x lx ∙ u) (rw (st .joined x k lx lk) t) ∙ dx;
-    clear = λ t u. sym (ap₂ (barsIn index rows universal x k) dx dk) ∙ bars-is P n universal near index rows st l x k lx lk ∙ none (st .side x lx ∙ u) (rw (st .joined x k lx lk) t);
-  }
-    where
-      l : List ℕ
-      l = listIn n w
+      calm : explained P S c p l R .loss ≡ false
+      calm = sym (entry-loss P S c p l R (w .checked) (w .entry)) ∙ e
 
-      dx : getD l x 0 ≡ getD w x 0
-      dx = getD-listIn n w x lx
+      r : reached P S c p l .list ≡ after P S c p l R
+      r = entry-list P S c p l R (w .checked) (w .entry) h e
 
-      dk : getD l k 0 ≡ getD w k 0
-      dk = getD-listIn n w k lk
+      m' : T (domains (after P S c p l R) (length p) a)
+      m' = subst (λ (y : List ℕ). T (domains y (length p) a)) r m
 
-      whole : P .universal x ≡ false → T (P .constrained x k) → maskOf 16 (λ a. bit (getD l x 0) a && not (kills P (domains l) x a k)) ≡ getD l x 0
-      whole u c = maskOf-same 16 (λ a. bit (getD l x 0) a && not (kills P (domains l) x a k)) (bit (getD l x 0))
-          (λ a h. same (bit (getD l x 0) a && not (kills P (domains l) x a k)) (bit (getD l x 0) a) (λ t. and-out (bit (getD l x 0) a) (not (kills P (domains l) x a k)) t .0)
-          (λ t. and-in (bit (getD l x 0) a) (not (kills P (domains l) x a k)) t (true-holds (ap not (q .lives u c a h t))))) ∙ sym (maskOf-bits 16 (getD l x 0) (rw dx (small x)))
+      back : Quiet P (domains (nextList P (after P S c p l R) (length p) a)) x k → Quiet P (domains (nextList P (reached P S c p l .list) (length p) a)) x k
+      back q = subst (λ (y : List ℕ). Quiet P (domains (nextList P y (length p) a)) x k) (sym r) q
 
-      none : P .universal x ≡ true → T (P .constrained x k) → some 16 (domains l x) (λ a. barred P (domains l) x a k) ≡ false
-      none u c = fails {b = some 16 (domains l x) (λ a. barred P (domains l) x a k)} λ t.
-          let r = some-out 16 (domains l x) (λ a. barred P (domains l) x a k) t in clash (q .unbarred u c (r .0) (r .1) (r .2)) (r .3)
+      only : x < length p → (b : ℕ) → T (domains (nextList P (after P S c p l R) (length p) a) x b) → b ≡ getD (p ++ (a ∷ [])) x 0
+      only g b y =
+          let s = snoc-length P p a in
+          let q = turn-list P S p₀ t (length p) (p ++ (a ∷ [])) _ _ (below {c = c} {p = p} {l = l} {R = R} a tu h e m) .played x (omega arith) in
+          let f : getD (nextList P (after P S c p l R) (length p) a) x 0 ≡ 2 ^ getD (p ++ (a ∷ [])) x 0 = ap (λ (z : List ℕ). getD (nextList P z (length p) a) x 0) (sym r) ∙ q in
+          single-only (nextList P (after P S c p l R) (length p) a) x (getD (p ++ (a ∷ [])) x 0) b f y
 
 pub settled : (n universal : ℕ) (near index rows : List ℕ) (S c d : ℕ) (w : List ℕ) → ((k : ℕ) → getD w k 0 < 65536) → Stands n universal near index rows S c d w → Settled n universal near index rows S c d w
-settled n universal near index rows S c d w small s one z x k lx lk o =
+settled n universal near index rows S c d w small s one z =
     let P = s .problem in
     let t = s .turn in
+    let plays = plays-in P n universal near index rows (s .states) S c d (s .plays) w small t in
     let e = t .count in
     let g = s .states .size in
-    calm-in P n universal near index rows (s .states) w small x k lx lk
-    (turn-quiet P S (t .plays) (t .legal-start) c (s .plays) (listIn n w) (whyIn n w) (t .turn) one z x k (omega arith) (omega arith) (subst (λ (y : ℕ). (k < c) ⊎ (y ≤ k)) (sym e) o))
+    record {
+      single = λ k l m. (getD (s .plays) k 0, plays .value k l m, plays .word k l m);
+      calm = λ x k lx lk o. calm-in P n universal near index rows (s .states) w small x k lx lk
+          (turn-quiet P S (t .plays) (t .legal-start) c (s .plays) (listIn n w) (whyIn n w) (t .turn) one z x k (omega arith) (omega arith) (λ i j. o i (omega arith)));
+    }

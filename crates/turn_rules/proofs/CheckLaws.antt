@@ -33,7 +33,7 @@ single-full : (a : ℕ) → ¬ (2 ^ a ≡ 0)
 single-full a e = clash (ap (λ (m : ℕ). bit m a) e ∙ bit-of-zero a) (true-holds (bit-single a a ∙ eq-eqb a a refl))
 
 -- The lowest value of a single one.
-lowest-single : (a : ℕ) → a < 16 → first 16 (bit (2 ^ a)) ≡ a
+pub lowest-single : (a : ℕ) → a < 16 → first 16 (bit (2 ^ a)) ≡ a
 lowest-single a h = eqb-true _ _ (sym (bit-single a (first 16 (bit (2 ^ a)))) ∙ first-has 16 (bit (2 ^ a)) a h (bit-single a a ∙ eq-eqb a a refl))
 
 -- A mask of at most the value k, and not empty.

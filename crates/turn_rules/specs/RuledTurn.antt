@@ -3,7 +3,7 @@ use mathlib.Core.Path.{_≡_}
 use mathlib.Core.Bool.{Bool, true, false}
 use mathlib.Core.List.{List}
 use mathlib.Core.Logic.{_⊎_}
-use Prim.Native.Nat.{ℕ, _-_, _^_, _≤_, _<_}
+use Prim.Native.Nat.{ℕ, _+_, _-_, _^_, _≤_, _<_}
 use lib.Dec.{T}
 use lib.ListN.{getD, length}
 use Rattle.mask.specs.Range.{first}
@@ -39,24 +39,34 @@ pub record Narrowed (n c d m : ℕ) (w w' : List ℕ) : Type 0 where
   pub less : (k a : ℕ) → k < n → T (bit (getD w' k 0) a) → T (bit (getD w k 0) a)
   pub kept : (k : ℕ) → k < n → (k < c) ⊎ (d ≤ k) → bit m k ≡ false → getD w' k 0 ≡ getD w k 0
 
--- A variable outside the mask r was not narrowed and is not one of the plays from c on, and c is not 0.
-abbrev pub Outside : (n c d narrowed r : ℕ) → Type 0
-Outside n c d narrowed r = (k : ℕ) → k < n → bit r k ≡ false → (¬ (c ≡ 0)) × (bit narrowed k ≡ false) × ((k < c) ⊎ (d ≤ k))
+-- A variable outside the mask r was not narrowed and is not the one play from c on, but where rule 2 is on; and c is not 0.
+abbrev pub Outside : (n c d : ℕ) (on : Bool) (narrowed r : ℕ) → Type 0
+Outside n c d on narrowed r = (k : ℕ) → k < n → bit r k ≡ false → (¬ (c ≡ 0)) × (c + 1 ≡ d) × (bit narrowed k ≡ false) × (k ≡ c → on ≡ true)
 
--- Where c is not 0, rule 1 in the turn above left a list in which no variable has an effect on another, and only the plays from c on are new.
+-- Rule 1 in the turn above left a list in which no variable has an effect on another; since then the plays from c on have become single values,
+-- which have no effect on those before them.
+pub record Rested (n universal : ℕ) (near index rows : List ℕ) (c d : ℕ) (w : List ℕ) : Type 0 where
+  pub single : (k : ℕ) → c ≤ k → k < d → (a : ℕ) × (a < 16) × (getD w k 0 ≡ 2 ^ a)
+  pub calm : (x k : ℕ) → x < n → k < n → (c ≤ k → k < d → x ≤ k) → Calm near index rows universal w x k
+
+-- Where c is not 0 there is a turn above.
 abbrev pub Settled : (n universal : ℕ) (near index rows : List ℕ) (S c d : ℕ) (w : List ℕ) → Type 0
-Settled n universal near index rows S c d w =
-    uses S 1 ≡ true → ¬ (c ≡ 0) → (x k : ℕ) → x < n → k < n → (k < c) ⊎ (d ≤ k) → Calm near index rows universal w x k
+Settled n universal near index rows S c d w = uses S 1 ≡ true → ¬ (c ≡ 0) → Rested n universal near index rows c d w
+
+-- The lowest value of variable x.
+unfoldable pub lowestOf : List ℕ → ℕ → ℕ
+lowestOf w x = first 16 (bit (getD w x 0))
+
+-- The check of the lowest value of x leaves that value of x, and x has no effect on those behind it.
+pub record Heeded (n universal : ℕ) (near index rows : List ℕ) (x : ℕ) (w w' : List ℕ) : Type 0 where
+  pub own : getD w' x 0 ≡ 2 ^ lowestOf w x
+  pub later : (y : ℕ) → y < n → x < y → Calm near index rows universal w' y x
 
 -- p is a list of d plays, and the words from c on hold them.
 pub record Plays (c d : ℕ) (p w : List ℕ) : Type 0 where
   pub count : length p ≡ d
   pub value : (j : ℕ) → c ≤ j → j < d → getD p j 0 < 16
   pub word : (j : ℕ) → c ≤ j → j < d → getD w j 0 ≡ 2 ^ getD p j 0
-
--- The lowest value of variable x.
-unfoldable pub lowestOf : List ℕ → ℕ → ℕ
-lowestOf w x = first 16 (bit (getD w x 0))
 
 -- For every problem that the arrays state: the check of the lowest value of x.
 abbrev pub CheckedPlay : (n universal : ℕ) (near index rows : List ℕ) (x : ℕ) (w w' : List ℕ) (lost : Bool) (conflict : ℕ) → Type 0

@@ -9,7 +9,7 @@ ghost use Rattle.game.specs.Rule.{uses};
 ghost use Rattle.arrays.specs.Arrays.{InRange};
 ghost use Rattle.forward_rule.specs.Replies.{Nonzero};
 ghost use Rattle.arc_rule.specs.ArcRule.{CalmBut};
-ghost use Rattle.turn_rules.specs.RuledTurn.{Stated, Lasting, Narrowed, Outside, Settled, CheckedPlay, CheckedPlays, ChecksTurn, ArcTurn, AheadTurn, RuledTurn};
+ghost use Rattle.turn_rules.specs.RuledTurn.{Stated, Lasting, Narrowed, Heeded, Outside, Settled, CheckedPlay, CheckedPlays, ChecksTurn, ArcTurn, AheadTurn, RuledTurn};
 use arc_rule::arc;
 use arc_rule::everyone;
 use forward_rule::forward;
@@ -38,7 +38,7 @@ fn check_play(
     w: &mut [u16],
 ) -> Said
     requires { ⌜ (n ≤ 32) × (x < n) × (96 ≤ length (now w)) × InRange (now index) × Nonzero n (now w) × Stated n universal (now near) (now index) (now rows) ⌝ }
-    ensures { λ r. ⌜ CheckedPlay n universal (now (near .entry)) (now (index .entry)) (now (rows .entry)) x (now (w .entry)) (now (w .exit)) (r .loss) (r .conflict) × Lasting n (now (w .exit)) (r .loss) × (r .loss ≡ false → Narrowed n x (x + 1) (r .narrowed) (now (w .entry)) (now (w .exit))) ⌝ }
+    ensures { λ r. ⌜ CheckedPlay n universal (now (near .entry)) (now (index .entry)) (now (rows .entry)) x (now (w .entry)) (now (w .exit)) (r .loss) (r .conflict) × Lasting n (now (w .exit)) (r .loss) × (r .loss ≡ false → Narrowed n x (x + 1) (r .narrowed) (now (w .entry)) (now (w .exit))) × (r .loss ≡ false → Heeded n universal (now (near .entry)) (now (index .entry)) (now (rows .entry)) x (now (w .entry)) (now (w .exit))) ⌝ }
 {
     let a = lowest(w[x]) as usize;
     let f = forward(near, index, rows, n, universal, x, a, w);
@@ -68,7 +68,7 @@ fn check_plays(
     w: &mut [u16],
 ) -> Said
     requires { ⌜ (n ≤ 32) × (c ≤ d) × (d ≤ n) × (96 ≤ length (now w)) × InRange (now index) × Nonzero n (now w) × Stated n universal (now near) (now index) (now rows) ⌝ }
-    ensures { λ r. ⌜ CheckedPlays n universal (now (near .entry)) (now (index .entry)) (now (rows .entry)) c d (now (w .entry)) (now (w .exit)) (r .loss) (r .conflict) × Lasting n (now (w .exit)) (r .loss) × (r .loss ≡ false → Narrowed n c d (r .narrowed) (now (w .entry)) (now (w .exit))) ⌝ }
+    ensures { λ r. ⌜ CheckedPlays n universal (now (near .entry)) (now (index .entry)) (now (rows .entry)) c d (now (w .entry)) (now (w .exit)) (r .loss) (r .conflict) × Lasting n (now (w .exit)) (r .loss) × (r .loss ≡ false → Narrowed n c d (r .narrowed) (now (w .entry)) (now (w .exit))) × (r .loss ≡ false → c + 1 ≡ d → Heeded n universal (now (near .entry)) (now (index .entry)) (now (rows .entry)) c (now (w .entry)) (now (w .exit))) ⌝ }
 {
     let mut narrowed: u32 = 0;
     let mut x = c;
@@ -118,7 +118,7 @@ fn checks_turn(
     w: &mut [u16],
 ) -> Said
     requires { ⌜ (n ≤ 32) × (c ≤ d) × (d ≤ n) × (96 ≤ length (now w)) × InRange (now index) × Nonzero n (now w) × Stated n universal (now near) (now index) (now rows) ⌝ }
-    ensures { λ r. ⌜ ChecksTurn on n universal (now (near .entry)) (now (index .entry)) (now (rows .entry)) c d (now (w .entry)) (now (w .exit)) (r .loss) (r .conflict) × Lasting n (now (w .exit)) (r .loss) × (r .loss ≡ false → Narrowed n c d (r .narrowed) (now (w .entry)) (now (w .exit))) ⌝ }
+    ensures { λ r. ⌜ ChecksTurn on n universal (now (near .entry)) (now (index .entry)) (now (rows .entry)) c d (now (w .entry)) (now (w .exit)) (r .loss) (r .conflict) × Lasting n (now (w .exit)) (r .loss) × (r .loss ≡ false → Narrowed n c d (r .narrowed) (now (w .entry)) (now (w .exit))) × (r .loss ≡ false → on ≡ true → c + 1 ≡ d → Heeded n universal (now (near .entry)) (now (index .entry)) (now (rows .entry)) c (now (w .entry)) (now (w .exit))) ⌝ }
 {
     if on {
         return check_plays(near, index, rows, n, universal, c, d, w);
@@ -131,16 +131,19 @@ fn checks_turn(
 }
 
 // The variables that rule 1 looks at: those whose domains are not what it left in the turn above. Where c is 0 there may
-// be no such turn.
-fn changed_by(n: usize, c: usize, d: usize, narrowed: u32) -> u32
+// be no such turn. Rule 2 leaves the play c without effect.
+fn changed_by(n: usize, c: usize, d: usize, on: bool, narrowed: u32) -> u32
     requires { ⌜ (n ≤ 32) × (c ≤ d) × (d ≤ n) ⌝ }
-    ensures { λ r. ⌜ Outside n c d narrowed r ⌝ }
+    ensures { λ r. ⌜ Outside n c d on narrowed r ⌝ }
 {
     if c == 0 {
         return everyone(n);
     }
     if c + 1 != d {
         return everyone(n);
+    }
+    if on {
+        return narrowed;
     }
     narrowed | single_32(c)
 }
@@ -220,11 +223,12 @@ pub fn run_rules(
     requires { ⌜ (n ≤ 32) × (c ≤ d) × (d ≤ n) × (96 ≤ length (now w)) × InRange (now index) × Nonzero n (now w) × Stated n universal (now near) (now index) (now rows) × Settled n universal (now near) (now index) (now rows) set c d (now w) ⌝ }
     ensures { λ r. ⌜ RuledTurn n universal (now (near .entry)) (now (index .entry)) (now (rows .entry)) set c d (now (w .entry)) (now (w .exit)) (r .loss) (r .conflict) × Lasting n (now (w .exit)) (r .loss) ⌝ }
 {
-    let s = checks_turn(near, index, rows, n, universal, in_use(set, 2), c, d, w);
+    let checked = in_use(set, 2);
+    let s = checks_turn(near, index, rows, n, universal, checked, c, d, w);
     if s.loss {
         return s;
     }
-    let changed = changed_by(n, c, d, s.narrowed);
+    let changed = changed_by(n, c, d, checked, s.narrowed);
     let a = arc_turn(near, index, rows, n, universal, in_use(set, 1), changed, w);
     if a.loss {
         return a;

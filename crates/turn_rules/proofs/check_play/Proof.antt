@@ -6,7 +6,7 @@ use native.Mathlib.Omega.{arith}
 use Rattle.mask.proofs.Logic.{true-holds}
 use Rattle.mask.proofs.Members.{low-lt}
 use Rattle.turn_rules.proofs.CheckLaws.{play-lost, play-kept, play-lasts}
-use Rattle.turn_rules.proofs.NarrowLaws.{play-narrowed}
+use Rattle.turn_rules.proofs.NarrowLaws.{play-narrowed, play-heeded}
 use Rattle.turn_rules.proofs.check_play.Statement.{statement}
 use Rattle.turn_rules.proofs.check_play.Tie as tie
 
@@ -45,6 +45,7 @@ returns c =
           play-lost P _ _ _ _ _ st _ (p .1) _ (p .2) (λ k. omega (arith, s .slice-known .given k)) (p .4) _ (d .before .before .lowest .ensures) _ _ (f .0) (f .1) t _ (c .forward-conflict .ensures P _ _ _ _ st t),
       (λ e. absurd (true-holds (sym e))),
       (λ e. absurd (true-holds (sym e))),
+      (λ e. absurd (true-holds (sym e))),
     )
 
 same-length-2 : tie.Need-same-length-2
@@ -61,6 +62,7 @@ returns-2 c =
           play-kept P _ _ _ _ _ st _ (p .1) _ (p .2) (λ k. omega (arith, s .slice-known .given k)) (p .4) _ (d .before .before .lowest .ensures) _ _ (f .0) (f .1) (c .if1 .left) _,
       (λ e. play-lasts _ _ _ _ _ _ st _ (p .1) _ (p .2) (λ k. omega (arith, s .slice-known .given k)) (p .4) _ (d .before .before .lowest .ensures) _ _ (g .0) (g .1) (c .if1 .left)),
       (λ e. play-narrowed _ _ _ _ _ _ st _ (p .1) _ (p .2) (λ k. omega (arith, s .slice-known .given k)) (p .4) _ (d .before .before .lowest .ensures) _ _ (g .0) (g .1) _ (p .0) (c .if1 .left) (d .forward .ensures .1)),
+      (λ e. play-heeded _ _ _ _ _ _ st _ (p .1) _ (p .2) (λ k. omega (arith, s .slice-known .given k)) (p .4) _ (d .before .before .lowest .ensures) _ _ (g .0) (g .1) (c .if1 .left) (λ k. omega (arith, c .before .before .slice-known3 .given k))),
     )
 
 pub check-play-spec : {M : Type 1} → statement M

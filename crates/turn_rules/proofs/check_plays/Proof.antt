@@ -1,4 +1,4 @@
-use Prim.Native.Nat.{ℕ, _-_, _≤_, _<_}
+use Prim.Native.Nat.{ℕ, _+_, _-_, _≤_, _<_}
 use borrow.Author.Needs.{needs}
 use lib.ListN.{getD, length}
 use mathlib.Core.Path.{_≡_, refl, sym, _∙_}
@@ -6,20 +6,20 @@ use native.Mathlib.Omega.{arith}
 use Rattle.forward_rule.specs.Replies.{Nonzero}
 use Rattle.mask.proofs.Logic.{true-holds}
 use Rattle.turn_rules.proofs.CheckLaws.{Checking, along-start, along-turn, along-lost, along-end}
-use Rattle.turn_rules.proofs.NarrowLaws.{narrowed-none, narrowed-more}
-use Rattle.turn_rules.specs.RuledTurn.{Narrowed}
+use Rattle.turn_rules.proofs.NarrowLaws.{narrowed-none, narrowed-more, heeded-first}
+use Rattle.turn_rules.specs.RuledTurn.{Narrowed, Heeded}
 use Rattle.turn_rules.proofs.check_plays.Statement.{statement}
 use Rattle.turn_rules.proofs.check_plays.Tie as tie
 
 abbrev Inv-loop : tie.InvT-loop
 Inv-loop near index rows n universal c d w₀ narrowed₀ x₀ w narrowed x =
-    (c ≤ x) × (x ≤ d) × (length w ≡ length w₀) × ((k : ℕ) → getD w k 0 < 65536) × Nonzero n w × Checking n universal near index rows c d x w₀ w × Narrowed n c d narrowed w₀ w
+    (c ≤ x) × (x ≤ d) × (length w ≡ length w₀) × ((k : ℕ) → getD w k 0 < 65536) × Nonzero n w × Checking n universal near index rows c d x w₀ w × Narrowed n c d narrowed w₀ w × (x ≡ c → w ≡ w₀) × (x ≡ c + 1 → Heeded n universal near index rows c w₀ w)
 
 abbrev μ-loop : tie.MeasureT-loop
 μ-loop near index rows n universal c d w₀ narrowed₀ x₀ w narrowed x = d - x
 
 loop-holds : tie.Need-loop-holds Inv-loop μ-loop
-loop-holds c = (omega arith, c .before .pre .1, refl, (λ k. omega (arith, c .slice-known .given k)), c .before .pre .5, (λ P st p s. along-start P _ _ _ p _ s), narrowed-none _ _ _ _ _)
+loop-holds c = (omega arith, c .before .pre .1, refl, (λ k. omega (arith, c .slice-known .given k)), c .before .pre .5, (λ P st p s. along-start P _ _ _ p _ s), narrowed-none _ _ _ _ _, (λ _. refl), (λ q. absurd (omega arith)))
 
 check-play-requires : tie.Need-check-play-requires Inv-loop μ-loop
 check-play-requires c κs =
@@ -43,6 +43,7 @@ returns c =
     let e = i .2 in
     let t = c .if1 .taken in (
       (λ P st q s. along-lost P _ _ _ _ _ st _ _ _ (p .2) q _ _ (omega arith) (i .5 P st q s) (d .before .before .loop-test .taken) _ _ _ (d .check-play .ensures .0 P st) t),
+      (λ f. absurd (true-holds (sym f ∙ t))),
       (λ f. absurd (true-holds (sym f ∙ t))),
       (λ f. absurd (true-holds (sym f ∙ t))),
     )
@@ -71,6 +72,8 @@ loop-again c =
       z,
       (λ P st q s. along-turn P _ _ _ _ _ st _ _ _ (p .2) q _ _ (omega arith) (i .5 P st q s) h _ _ _ (d .check-play .ensures .0 P st) t z),
       narrowed-more _ _ _ _ _ _ _ _ _ g h (i .6) (d .check-play .ensures .2 t),
+      (λ q. absurd (omega arith)),
+      (λ q. heeded-first _ _ _ _ _ _ _ _ _ _ (omega arith) (i .7) (d .check-play .ensures .3 t)),
     )
 
 same-length-2 : tie.Need-same-length-2 Inv-loop μ-loop
@@ -82,7 +85,7 @@ returns-2 c =
     let i = c .before .loop .inv in
     let l = p .3 in
     let e = i .2 in
-    ((λ P st q s. along-end P _ _ _ _ _ st _ _ _ (p .2) q _ _ (omega arith) (i .5 P st q s) (c .loop-test .left) (i .3) _), (λ _. i .4), (λ _. i .6))
+    ((λ P st q s. along-end P _ _ _ _ _ st _ _ _ (p .2) q _ _ (omega arith) (i .5 P st q s) (c .loop-test .left) (i .3) _), (λ _. i .4), (λ _. i .6), (λ _ q. i .8 (omega arith)))
 
 pub check-plays-spec : {M : Type 1} → statement M
 check-plays-spec =

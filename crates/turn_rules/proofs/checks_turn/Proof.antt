@@ -1,6 +1,8 @@
 use native.Mathlib.Omega.{arith}
 use Rattle.turn_rules.proofs.ChainLaws.{chosen, left-out, idle-replies}
 use Rattle.turn_rules.proofs.NarrowLaws.{narrowed-none}
+use mathlib.Core.Path.{sym, _∙_}
+use Rattle.mask.proofs.Logic.{true-holds}
 use borrow.Author.Needs.{needs}
 use Rattle.turn_rules.proofs.checks_turn.Statement.{statement}
 use Rattle.turn_rules.proofs.checks_turn.Tie as tie
@@ -14,12 +16,12 @@ same-length c = search needs
 returns : tie.Need-returns
 returns c =
     let d = c .before .before in
-    ((λ P st p s. chosen _ _ _ _ _ _ _ _ _ (d .before .before .if1 .taken) (d .check-plays .ensures .0 P st p s)), d .check-plays .ensures .1, d .check-plays .ensures .2)
+    ((λ P st p s. chosen _ _ _ _ _ _ _ _ _ (d .before .before .if1 .taken) (d .check-plays .ensures .0 P st p s)), d .check-plays .ensures .1, d .check-plays .ensures .2, (λ f _. d .check-plays .ensures .3 f))
 
 returns-2 : tie.Need-returns-2
 returns-2 c =
     let p = c .before .before .pre in
-    ((λ P st q s. left-out _ _ _ _ _ _ _ _ _ (c .if1 .left) (idle-replies _ (p .0) _ (p .3) (λ k. omega (arith, c .before .slice-known .given k)) _)), (λ _. p .5), (λ _. narrowed-none _ _ _ _ _))
+    ((λ P st q s. left-out _ _ _ _ _ _ _ _ _ (c .if1 .left) (idle-replies _ (p .0) _ (p .3) (λ k. omega (arith, c .before .slice-known .given k)) _)), (λ _. p .5), (λ _. narrowed-none _ _ _ _ _), (λ _ t. absurd (true-holds (sym (c .if1 .left) ∙ t))))
 
 pub checks-turn-spec : {M : Type 1} → statement M
 checks-turn-spec = tie.close (tie.spec check-plays-requires same-length returns returns-2)

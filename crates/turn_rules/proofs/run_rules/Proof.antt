@@ -41,7 +41,7 @@ arc-turn-requires c κs =
       p .4,
       d .checks-turn .ensures .1 f,
       p .6,
-      calm-after _ _ _ _ _ _ _ _ _ _ _ _ (λ k. omega (arith, c .before .before .before .before .slice-known2 .given k)) (p .7) (d .checks-turn .ensures .2 f) (c .before .before .changed-by .ensures) _ (c .before .in-use2 .ensures),
+      calm-after _ _ _ _ _ _ _ _ _ _ _ _ (λ k. omega (arith, c .before .before .before .before .slice-known2 .given k)) (p .7) (d .checks-turn .ensures .2 f) _ (d .checks-turn .ensures .3 f) (c .before .before .changed-by .ensures) _ (c .before .in-use2 .ensures),
     )
 
 same-length-2 : tie.Need-same-length-2

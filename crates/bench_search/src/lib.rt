@@ -1,6 +1,3 @@
-crates/bench_search/src/lib.rt, for the line `bench_search: judging position` of crates.txt once judging is proved; bench/search/run then builds it.
-Run unproved over the 20 jobs with `set: u8`, linked by hand: verdicts agree with the Rust solver's. Not yet built by rt staticlib.
-
 // Judging as a C function, for the bench program in bench/search: 1 won, 0 lost, else refused. Not for callers.
 use judging::Judged;
 use judging::judge;

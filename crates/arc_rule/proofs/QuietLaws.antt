@@ -1,0 +1,61 @@
+-- A variable without effect on another, in a problem and on the words of a turn.
+use mathlib.Core.Path.{_≡_, sym, ap, ap₂, _∙_}
+use mathlib.Core.Bool.{Bool, true, false, not, _&&_}
+use mathlib.Core.List.{List}
+use Prim.Native.Nat.{ℕ, _<_}
+use lib.Dec.{T}
+use lib.Bits.{bitAnd}
+use lib.ListN.{getD}
+use Rattle.mask.specs.Range.{some}
+use Rattle.mask.specs.Mask.{bit, maskOf}
+use Rattle.mask.proofs.Logic.{same, true-holds, fails, clash, and-in, and-out}
+use Rattle.mask.proofs.Range.{some-out}
+use Rattle.mask.proofs.Masks.{maskOf-same, maskOf-bits}
+use Rattle.game.specs.Problem.{Problem}
+use Rattle.game.specs.Game.{Domains}
+use Rattle.game.specs.Lists.{domains}
+use Rattle.game.specs.Arc.{barred}
+use Rattle.game.specs.Reasons.{kills, surviving}
+use Rattle.arrays.specs.Arrays.{States}
+use Rattle.arrays.specs.Words.{listIn}
+use Rattle.arrays.proofs.WordLaws.{getD-listIn}
+use Rattle.arc_passes.specs.Passes.{leaves}
+use Rattle.arc_passes.proofs.Support.{surviving-leaves}
+use Rattle.arc_rule.specs.Loss.{barsIn}
+use Rattle.arc_rule.specs.ArcRule.{Calm}
+use Rattle.arc_rule.proofs.LossLaws.{bars-is}
+
+module _ (P : Problem) where
+  open Problem P using (universal, constrained)
+
+  -- In the domains D variable k has no effect on x.
+  pub record Quiet (D : Domains) (x k : ℕ) : Type 0 where
+    pub lives : universal x ≡ false → T (constrained x k) → (a : ℕ) → a < 16 → T (D x a) → kills P D x a k ≡ false
+    pub unbarred : universal x ≡ true → T (constrained x k) → (a : ℕ) → a < 16 → T (D x a) → barred P D x a k ≡ false
+
+-- On the words of a turn.
+module _ (P : Problem) (n universal : ℕ) (near index rows : List ℕ) (st : States P n universal near index rows) (w : List ℕ) (small : (k : ℕ) → getD w k 0 < 65536) where
+  pub calm-in : (x k : ℕ) → x < n → k < n → Quiet P (domains (listIn n w)) x k → Calm near index rows universal w x k
+  unfolding surviving domains
+  calm-in x k lx lk q = record {
+    rests = λ t u. sym (ap₂ (λ u v. bitAnd u (leaves index rows universal x k v)) dx dk) ∙ sym (surviving-leaves P n universal near index rows st l x k lx lk (rw dx (small x))) ∙ whole (st .side x lx ∙ u) (rw (st .joined x k lx lk) t) ∙ dx;
+    clear = λ t u. sym (ap₂ (barsIn index rows universal x k) dx dk) ∙ bars-is P n universal near index rows st l x k lx lk ∙ none (st .side x lx ∙ u) (rw (st .joined x k lx lk) t);
+  }
+    where
+      l : List ℕ
+      l = listIn n w
+
+      dx : getD l x 0 ≡ getD w x 0
+      dx = getD-listIn n w x lx
+
+      dk : getD l k 0 ≡ getD w k 0
+      dk = getD-listIn n w k lk
+
+      whole : P .universal x ≡ false → T (P .constrained x k) → maskOf 16 (λ a. bit (getD l x 0) a && not (kills P (domains l) x a k)) ≡ getD l x 0
+      whole u c = maskOf-same 16 (λ a. bit (getD l x 0) a && not (kills P (domains l) x a k)) (bit (getD l x 0))
+          (λ a h. same (bit (getD l x 0) a && not (kills P (domains l) x a k)) (bit (getD l x 0) a) (λ t. and-out (bit (getD l x 0) a) (not (kills P (domains l) x a k)) t .0)
+          (λ t. and-in (bit (getD l x 0) a) (not (kills P (domains l) x a k)) t (true-holds (ap not (q .lives u c a h t))))) ∙ sym (maskOf-bits 16 (getD l x 0) (rw dx (small x)))
+
+      none : P .universal x ≡ true → T (P .constrained x k) → some 16 (domains l x) (λ a. barred P (domains l) x a k) ≡ false
+      none u c = fails {b = some 16 (domains l x) (λ a. barred P (domains l) x a k)} λ t.
+          let r = some-out 16 (domains l x) (λ a. barred P (domains l) x a k) t in clash (q .unbarred u c (r .0) (r .1) (r .2)) (r .3)
