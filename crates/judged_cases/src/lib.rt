@@ -22,6 +22,7 @@ pub use rooms::values;
 pub use rooms::verdict;
 pub use searches::searched;
 pub use sets::judges_under_all;
+pub use sets::marks_as_plain;
 pub use sets::marks_under_all;
 pub use stored::Call;
 pub use stored::Game;

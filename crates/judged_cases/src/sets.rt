@@ -1,8 +1,13 @@
 // One answer under each of the 128 rule sets, with up to 127 words lent more than needed.
 ghost use Prim.Native.Nat.{_≤_};
+use crate::positions::after;
 use crate::rooms::Answer;
 use crate::rooms::judges;
 use crate::rooms::marks;
+use crate::rooms::refused;
+use crate::rooms::values;
+use plain_game::domain;
+use plain_game::winning;
 use position::Position;
 use vectors::Tally;
 use vectors::counted;
@@ -33,4 +38,24 @@ pub fn marks_under_all(f: &[u8], p: Position, n: usize, a: Answer, used: usize, 
         set += 1;
     }
     u
+}
+
+// The plain solver's marks after d plays: 22 where all are played.
+fn plain_marks(f: &[u8], n: usize, d: usize, picks: usize) -> Answer
+    requires { ⌜ (n ≤ 8) × (d ≤ 8) ⌝ }
+{
+    if d < n {
+        values(winning(f, n, d, picks), domain(f, d))
+    } else {
+        refused(22)
+    }
+}
+
+// Marking answers what the plain solver does, after d plays.
+pub fn marks_as_plain(f: &[u8], n: usize, d: usize, picks: usize, t: Tally) -> Tally
+    requires { ⌜ (n ≤ 8) × (d ≤ 8) ⌝ }
+{
+    let a = plain_marks(f, n, d, picks);
+    let used = if d < n { 128 * (n + 1) } else { 0 };
+    marks_under_all(f, after(picks, d), n, a, used, t)
 }

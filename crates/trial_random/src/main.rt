@@ -11,16 +11,13 @@ use judged_cases::Answer;
 use judged_cases::after;
 use judged_cases::judges;
 use judged_cases::judges_under_all;
-use judged_cases::marks_under_all;
+use judged_cases::marks_as_plain;
 use judged_cases::refused;
 use judged_cases::searched;
-use judged_cases::values;
 use judged_cases::verdict;
 use plain_game::both;
-use plain_game::domain;
 use plain_game::draw;
 use plain_game::hold_below;
-use plain_game::winning;
 use plain_game::wins;
 use positions::misfit;
 use positions::plays;
@@ -71,17 +68,6 @@ fn judged(won: bool) -> Answer {
     verdict(if won { 1 } else { 0 })
 }
 
-// What marking answers after d plays: 22 where all are played.
-fn marked(f: &[u8], n: usize, d: usize, picks: usize) -> Answer
-    requires { ⌜ (n ≤ 8) × (d ≤ 8) ⌝ }
-{
-    if d < n {
-        values(winning(f, n, d, picks), domain(f, d))
-    } else {
-        refused(22)
-    }
-}
-
 // One position after d plays, searched under this set, with a misfit of this kind.
 fn one_position(
     f: &[u8],
@@ -94,9 +80,7 @@ fn one_position(
 ) -> Trial
     requires { ⌜ (n ≤ 8) × (d ≤ 8) × (set < 128) ⌝ }
 {
-    let needed = 128 * (n + 1);
-    let used = if d < n { needed } else { 0 };
-    let short = needed - 1;
+    let short = 128 * (n + 1) - 1;
     let lent = short + kind % 8;
     let p = after(picks, d);
     let q = misfit(p, n, kind);
@@ -105,7 +89,7 @@ fn one_position(
     let k = x.kinds;
     Trial {
         verdicts: judges_under_all(f, p, n, judged(won), x.verdicts),
-        marks: marks_under_all(f, p, n, marked(f, n, d, picks), used, x.marks),
+        marks: marks_as_plain(f, n, d, picks, x.marks),
         searches: counted(x.searches, r.won == won),
         short: counted(x.short, judges(f, p, set, short, refused(12), 0)),
         misfits: counted(x.misfits, judges(f, q, set, lent, refused(23), 0)),
@@ -183,7 +167,7 @@ fn tell_kinds(k: Kinds) {
 }
 
 fn main() {
-    let x = all_problems(1024);
+    let x = all_problems(2048);
     tell_kinds(x.kinds);
     report(b"verdicts under all sets ", x.verdicts);
     report(b"marks under all sets ", x.marks);

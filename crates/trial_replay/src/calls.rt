@@ -17,20 +17,20 @@ pub struct Calls {
     pub refused: usize,
 }
 
-// Call k of a list: of 16 calls four are take-backs, one is a play of 16 to 254, three are plays of any value below 16, and the
+// Call k of a list: of 16 calls six are take-backs, one is a play of 16 to 254, three are plays of any value below 16, and the
 // others plays of a value of the next variable, which are refused when all are played.
 fn call_of(f: &[u8], list: usize, k: usize, l: Plays) -> u8
     requires { ⌜ (list < 65536) × (k < 64) ⌝ }
 {
     let kind = draw(list, 128 + k, 16);
     let v = draw(list, 256 + k, 16);
-    if kind < 4 {
+    if kind < 6 {
         return 255;
     }
-    if kind == 4 {
+    if kind == 6 {
         return (16 + draw(list, 512 + k, 239)) as u8;
     }
-    if kind < 8 {
+    if kind < 10 {
         return v as u8;
     }
     member(domain(f, count(l)), v) as u8

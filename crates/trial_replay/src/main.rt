@@ -120,9 +120,9 @@ fn at_most_8(n: usize) -> usize
     if n < 8 { n } else { 8 }
 }
 
-// Four lists on one file, of which the first is number 4 * k.
+// Sixteen lists on one file, of which the first is number 16 * k.
 fn one_file(s: &[u8], k: usize, x: Trial) -> Trial
-    requires { ⌜ k < 8192 ⌝ }
+    requires { ⌜ k < 4096 ⌝ }
 {
     let t = x.plain;
     let g = game_at(s, t.at);
@@ -130,8 +130,8 @@ fn one_file(s: &[u8], k: usize, x: Trial) -> Trial
     let n = at_most_8(byte(f, 2));
     let mut y = x;
     let mut i = 0;
-    while i < 4 {
-        y = one_list(f, n, 4 * k + i, y);
+    while i < 16 {
+        y = one_list(f, n, 16 * k + i, y);
         i += 1;
     }
     next_file(y, g.next)
@@ -165,7 +165,7 @@ fn all_files(s: &[u8]) -> Trial {
     };
     let mut k = 0;
     while k < count {
-        x = one_file(s, k % 8192, x);
+        x = one_file(s, k % 4096, x);
         k += 1;
     }
     x

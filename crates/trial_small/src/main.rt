@@ -9,16 +9,12 @@ use files::double;
 use files::is_problem;
 use files::single;
 use files::written;
-use judged_cases::Answer;
 use judged_cases::after;
 use judged_cases::judges_under_all;
-use judged_cases::marks_under_all;
-use judged_cases::refused;
-use judged_cases::values;
+use judged_cases::marks_as_plain;
 use judged_cases::verdict;
 use plain_game::domain;
 use plain_game::has;
-use plain_game::winning;
 use plain_game::wins;
 use plain_game::with;
 use vectors::Tally;
@@ -36,17 +32,6 @@ struct Trial {
     marks: Tally,
 }
 
-// What marking answers after d plays: 22 where all are played.
-fn marked(f: &[u8], n: usize, d: usize, picks: usize) -> Answer
-    requires { ⌜ (n ≤ 8) × (d ≤ 8) ⌝ }
-{
-    if d < n {
-        values(winning(f, n, d, picks), domain(f, d))
-    } else {
-        refused(22)
-    }
-}
-
 fn one_if(x: usize, b: bool) -> usize {
     if b { one_more(x) } else { x }
 }
@@ -58,14 +43,12 @@ fn one_position(f: &[u8], n: usize, d: usize, picks: usize, x: Trial) -> Trial
     let p = after(picks, d);
     let won = wins(f, n, d, picks);
     let a = verdict(if won { 1 } else { 0 });
-    let b = marked(f, n, d, picks);
-    let used = if d < n { 128 * (n + 1) } else { 0 };
     Trial {
         problems: x.problems,
         won: one_if(x.won, won),
         lost: one_if(x.lost, won == false),
         verdicts: judges_under_all(f, p, n, a, x.verdicts),
-        marks: marks_under_all(f, p, n, b, used, x.marks),
+        marks: marks_as_plain(f, n, d, picks, x.marks),
     }
 }
 

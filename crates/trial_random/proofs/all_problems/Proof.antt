@@ -21,6 +21,9 @@ none-yet-requires-3 c κs = search needs
 none-yet-requires-4 : tie.Need-none-yet-requires-4 Inv-loop μ-loop
 none-yet-requires-4 c κs = search needs
 
+none-yet-requires-5 : tie.Need-none-yet-requires-5 Inv-loop μ-loop
+none-yet-requires-5 c κs = search needs
+
 loop-holds : tie.Need-loop-holds Inv-loop μ-loop
 loop-holds c = search needs
 
@@ -49,6 +52,7 @@ all-problems-spec =
     none-yet-requires-2
     none-yet-requires-3
     none-yet-requires-4
+    none-yet-requires-5
     loop-holds
     one-problem-requires
     add-problem

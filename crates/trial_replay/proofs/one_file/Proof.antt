@@ -4,10 +4,10 @@ use Rattle.trial_replay.proofs.one_file.Statement.{statement}
 use Rattle.trial_replay.proofs.one_file.Tie as tie
 
 abbrev Inv-loop : tie.InvT-loop
-Inv-loop s k g f n y₀ i₀ y i = i ≤ 4
+Inv-loop s k g f n y₀ i₀ y i = i ≤ 16
 
 abbrev μ-loop : tie.MeasureT-loop
-μ-loop s k g f n y₀ i₀ y i = 4 - i
+μ-loop s k g f n y₀ i₀ y i = 16 - i
 
 game-at-requires : tie.Need-game-at-requires Inv-loop μ-loop
 game-at-requires c κs = search needs
