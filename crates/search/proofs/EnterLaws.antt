@@ -21,7 +21,7 @@ use Rattle.narrow_rules.specs.Narrow.{Narrows, NarrowsNext}
 use Rattle.skip_rule.specs.Skip.{LeafSmall, Skips}
 use Rattle.turn_rules.specs.RuledTurn.{Plays, Replied, RuledTurn}
 use Rattle.search.specs.TurnSteps.{Enters, LeavesUntried}
-use Rattle.search.proofs.ValueLaws.{untried-off, untried-used}
+use Rattle.search.proofs.ValueLaws.{untried-off, untried-used, untried-none}
 
 -- Words behind the reasons stay.
 holding-behind : (n : ℕ) → n ≤ 32 → (w l R : List ℕ) (k : ℕ) → 96 ≤ k → getD (holding n w l R) k 0 ≡ getD w k 0
@@ -77,7 +77,10 @@ module _ (P : Problem) (n universal : ℕ) (near index rows : List ℕ) (st : St
             (eb ∙ sym (getD-listIn n v d h) ∙ ap (λ (l : List ℕ). getD l d 0) held);
       }
 
--- What is left to try, with rule 7 and without.
+-- What is left to try where no value is left, and else with rule 7 and without.
+pub leaves-none : (n universal : ℕ) (near index rows : List ℕ) (S d left a : ℕ) (w : List ℕ) (r : ℕ) → r ≡ untried (bit 0) a left → r ≡ 0 → LeavesUntried n universal near index rows S d left a w 0
+leaves-none n universal near index rows S d left a w r e z = λ P st small. untried-none (λ b. uses S 7 && skippable P (listIn n w) d (leafIn n w) b) a left r e z
+
 module _ (n universal : ℕ) (near index rows : List ℕ) (S d left a : ℕ) (w : List ℕ) (on : Bool) (o : on ≡ uses S 7) where
   pub leaves-used : on ≡ true → (s r : ℕ) → Skips near index rows n universal d w s → r ≡ untried (bit s) a left → LeavesUntried n universal near index rows S d left a w r
   leaves-used t s r k e = λ P st small. e ∙ untried-used (uses S 7) (skippable P (listIn n w) d (leafIn n w)) a left s (sym o ∙ t) (k P st small)

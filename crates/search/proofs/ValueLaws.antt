@@ -10,9 +10,9 @@ use lib.Bits.{bitOr}
 use borrow.Author.Tests.{eq-eqb, ne-eqb, lt-ltb, le-ltb}
 use Rattle.mask.specs.Range.{first}
 use Rattle.mask.specs.Mask.{bit, maskOf, rest}
-use Rattle.mask.proofs.Logic.{holds, clash, and-out, by-eq, by-lt}
+use Rattle.mask.proofs.Logic.{holds, true-holds, clash, and-out, by-eq, by-lt}
 use Rattle.mask.proofs.Range.{first-least}
-use Rattle.mask.proofs.Bits.{bit-of-zero, bit-high}
+use Rattle.mask.proofs.Bits.{bit-of-zero, bit-none, bit-high}
 use Rattle.mask.proofs.Masks.{maskOf-lt, bit-maskOf, maskOf-same}
 use Rattle.mask.proofs.Members.{bit-rest, low-lt, low-in}
 use Rattle.game.specs.Search.{Verdict, solved, failed, or-else, and-also, someValue, untried, eachValue}
@@ -185,3 +185,16 @@ untried-off on g a u skipped o e = maskOf-same 16 (λ b. ltb a b && (bit u b && 
 
 pub untried-used : (on : Bool) (g : ℕ → Bool) (a u skipped : ℕ) → on ≡ true → skipped ≡ maskOf 16 g → untried (bit skipped) a u ≡ untried (λ b. on && g b) a u
 untried-used on g a u skipped o e = untried-of g a u skipped e ∙ ap (λ (x : Bool). untried (λ b. x && g b) a u) (sym o)
+
+-- Where no later value is left, none is left to try.
+pub untried-none : (g : ℕ → Bool) (a u r : ℕ) → r ≡ untried (bit 0) a u → r ≡ 0 → 0 ≡ untried g a u
+unfolding untried
+untried-none g a u r e z = sym (bit-none 16 (maskOf 16 (λ b. ltb a b && (bit u b && not (g b)))) (maskOf-lt 16 (λ b. ltb a b && (bit u b && not (g b)))) λ k l.
+    bit-maskOf 16 (λ b. ltb a b && (bit u b && not (g b))) k l ∙ go (ltb a k) (bit u k) (bit 0 k) (g k) (bit-of-zero k)
+    (sym (bit-maskOf 16 (λ b. ltb a b && (bit u b && not (bit 0 b))) k l) ∙ ap (λ (m : ℕ). bit m k) (sym e ∙ z) ∙ bit-of-zero k))
+  where
+    go : (l u o s : Bool) → o ≡ false → (l && (u && not o)) ≡ false → (l && (u && not s)) ≡ false
+    go false u o s f h = refl
+    go true false o s f h = refl
+    go true true true s f h = absurd (true-holds (sym f))
+    go true true false s f h = absurd (true-holds (sym h))

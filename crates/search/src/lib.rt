@@ -166,7 +166,8 @@ fn won_below(room: &mut [u16]) -> Outcome
     }
 }
 
-// What is left to try of the mask `left` after value a gave the leaf in the words.
+// What is left to try of the mask `left` after value a gave the leaf in the words. Where no value is left, rule 7 has
+// nothing to test.
 fn untried_next(
     near: &[u32; 32],
     index: &[u16; 1024],
@@ -182,6 +183,10 @@ fn untried_next(
     requires { ⌜ (n ≤ 32) × (d < n) × (a < 16) × (128 ≤ length (now w)) × InRange (now index) ⌝ }
     ensures { λ r. ⌜ LeavesUntried n universal (now (near .entry)) (now (index .entry)) (now (rows .entry)) set d left a (now (w .entry)) r ⌝ }
 {
+    let rest = untried_after(left, a, 0);
+    if rest == 0 {
+        return 0;
+    }
     if in_use(set, 7) {
         return untried_after(
             left,
@@ -189,7 +194,7 @@ fn untried_next(
             skippable_values(near, index, rows, n, universal, d, w),
         );
     }
-    untried_after(left, a, 0)
+    rest
 }
 
 // The turn after d plays, whose variable d is existential.
