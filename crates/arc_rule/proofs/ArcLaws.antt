@@ -1,13 +1,14 @@
 -- What the code's removals leave, and the loss read off it, are rule 1 with reasons.
 use mathlib.Core.Path.{_≡_, sym, ap, ap₂, subst, _∙_}
-use mathlib.Core.Bool.{Bool, true, false}
+use mathlib.Core.Bool.{Bool, true, false, not}
 use mathlib.Core.List.{List}
 use Prim.Native.Nat.{ℕ, _≤_, _<_}
 use native.Mathlib.Omega.{arith}
-use lib.Dec.{T}
+use lib.Dec.{T, eqb}
 use lib.ListN.{getD, length}
+use borrow.Author.Tests.{eqb-true}
 use Rattle.mask.specs.Mask.{bit}
-use Rattle.mask.proofs.Logic.{true-holds}
+use Rattle.mask.proofs.Logic.{holds, true-holds, test, and-out}
 use Rattle.game.specs.Problem.{Problem}
 use Rattle.game.specs.Reasons.{Sheet, explainArc, revisions}
 use Rattle.arrays.specs.Arrays.{States}
@@ -16,8 +17,8 @@ use Rattle.arrays.proofs.WordLaws.{getD-listIn, holding-domain, holding-reason}
 use Rattle.arc_order.proofs.Waiting.{Sized, revisions-sized, revisions-keep}
 use Rattle.arc_passes.specs.Passes.{removedIn, Touched}
 use Rattle.arc_passes.proofs.Sheets.{sheetIn, sheet-sized, removals}
-use Rattle.arc_rule.specs.Loss.{barsIn, loss, conflict}
-use Rattle.arc_rule.specs.ArcRule.{Calm, CalmBut, Arced}
+use Rattle.arc_rule.specs.Loss.{emptiedIn, barsIn, loss, conflict}
+use Rattle.arc_rule.specs.ArcRule.{Calm, CalmBut, FullBut, Arced}
 use Rattle.arc_rule.proofs.LossLaws.{loss-is, conflict-is}
 
 module _ (P : Problem) (universal : ℕ) (near index rows : List ℕ) (w v : List ℕ) (lost : Bool) (c : ℕ) (long : 96 ≤ length w) (small : (k : ℕ) → getD w k 0 < 65536)
@@ -58,3 +59,10 @@ module _ (P : Problem) (universal : ℕ) (near index rows : List ℕ) (w v : Lis
       → lost ≡ loss near index rows universal touched v n → c ≡ conflict near index rows universal touched v n → Arced P n w v lost c
   arced n st calm e f g =
       subst Goal (st .size) own st calm (e ∙ removals P universal near index rows w long small changed n st (λ x k lx lk b i. calm x k lx lk b .rests i)) f g
+
+-- An emptied variable has lost values, or was looked at.
+pub emptied-touched : (n universal changed touched : ℕ) (w v : List ℕ) → n ≤ 32 → FullBut n changed w → Touched changed touched w v → (x : ℕ) → x < n → T (emptiedIn universal v x) → T (bit touched x)
+unfolding emptiedIn
+emptied-touched n universal changed touched w v h full t x l e = test (bit touched x) (λ y. y)
+    (λ f. let o = t x (omega arith) f in
+    absurd (full x l (o .0) (sym (o .1) ∙ eqb-true (getD v x 0) 0 (holds {b = eqb (getD v x 0) 0} (and-out (not (bit universal x)) (eqb (getD v x 0) 0) e .1)))))

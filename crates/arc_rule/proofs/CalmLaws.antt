@@ -8,11 +8,12 @@ use lib.Dec.{T, ltb}
 use lib.Bits.{bitAnd, and-le-l}
 use lib.ListN.{getD}
 use lib.Pow.{pow-pos, pow-mono}
+use borrow.Author.Tests.{lt-ltb, le-ltb}
 use Rattle.mask.specs.Range.{each}
 use Rattle.mask.specs.Mask.{bit}
-use Rattle.mask.proofs.Logic.{same, holds, true-holds, and-in, and-out}
+use Rattle.mask.proofs.Logic.{same, holds, true-holds, by-lt, and-in, and-out}
 use Rattle.mask.proofs.Range.{each-out, each-in}
-use Rattle.mask.proofs.Bits.{bit-and, bit-ext, bit-of-zero}
+use Rattle.mask.proofs.Bits.{bit-and, bit-ext, bit-high, bit-of-zero}
 use Rattle.mask.proofs.Masks.{bit-not}
 use Rattle.arrays.specs.Arrays.{supportedIn, commonIn}
 use Rattle.arc_passes.specs.Passes.{leaves}
@@ -26,11 +27,11 @@ ones-lt n h = let p = pow-pos n in let q = pow-mono {i = n} {j = 32} h in omega 
 pub ones-le : (n : ℕ) → 1 ≤ 2 ^ n
 ones-le n = let p = pow-pos n in omega arith
 
-pub ones-have : (n k : ℕ) → k < n → T (bit (2 ^ n - 1) k)
-ones-have n k h =
+pub bit-ones : (n k : ℕ) → bit (2 ^ n - 1) k ≡ ltb k n
+bit-ones n k =
     let p = pow-pos n in
     let e : 2 ^ n - 1 ≡ 2 ^ n - 1 - 0 = omega arith in
-    true-holds (ap (λ (m : ℕ). bit m k) e ∙ bit-not n 0 k (omega arith) h ∙ ap not (bit-of-zero k))
+    by-lt k n (λ h. ap (λ (m : ℕ). bit m k) e ∙ bit-not n 0 k (omega arith) h ∙ rw (bit-of-zero k, lt-ltb k n h)) (λ h. bit-high n (2 ^ n - 1) k (omega arith) h ∙ sym (le-ltb k n h))
 
 -- A mask u' within the mask u.
 module _ (u u' : ℕ) (less : (a : ℕ) → T (bit u' a) → T (bit u a)) where

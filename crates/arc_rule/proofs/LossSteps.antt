@@ -64,3 +64,8 @@ stopped-barred near index rows universal touched w n y k s l e =
     let b : ℕ = barrier index rows universal w y (bitAnd (getD near y 0) touched) in
     let t : T (stopped near index rows universal touched w (first n (stopped near index rows universal touched w))) = first-of n (stopped near index rows universal touched w) (rw (← s) l) in
     rw e (ltb-true b 32 (holds {b = ltb b 32} (and-out (bit universal y) (ltb b 32) (rw (← s) at t) .1)))
+
+-- A stopped variable is universal.
+pub stopped-universal-in : (near index rows : List ℕ) (universal touched : ℕ) (w : List ℕ) (x : ℕ) → T (stopped near index rows universal touched w x) → T (bit universal x)
+unfolding stopped
+stopped-universal-in near index rows universal touched w x t = and-out (bit universal x) (ltb (barrier index rows universal w x (bitAnd (getD near x 0) touched)) 32) t .0

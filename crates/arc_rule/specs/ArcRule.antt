@@ -29,6 +29,10 @@ pub record Calm (near index rows : List ℕ) (universal : ℕ) (w : List ℕ) (x
 abbrev pub CalmBut : ℕ → ℕ → List ℕ → List ℕ → List ℕ → ℕ → List ℕ → Type 0
 CalmBut n changed near index rows universal w = (x k : ℕ) → x < n → k < n → bit changed k ≡ false → Calm near index rows universal w x k
 
+-- No domain outside the mask changed is empty.
+abbrev pub FullBut : ℕ → ℕ → List ℕ → Type 0
+FullBut n changed w = (x : ℕ) → x < n → bit changed x ≡ false → ¬ (getD w x 0 ≡ 0)
+
 -- For every problem that they state.
 abbrev pub ArcSteps : ℕ → ℕ → List ℕ → List ℕ → List ℕ → List ℕ → List ℕ → Bool → ℕ → Type 0
 ArcSteps n universal near index rows entry exit lost conflict = (P : Problem) → States P n universal near index rows → Arced P n entry exit lost conflict

@@ -2,14 +2,19 @@
 -- proofs/LossLaws.antt says that they are the definition's.
 use mathlib.Core.Bool.{Bool, cond, not, _&&_, _||_}
 use mathlib.Core.List.{List}
-use Prim.Native.Nat.{ℕ}
-use lib.Dec.{eqb, ltb}
+use Prim.Native.Nat.{ℕ, _<_}
+use lib.Dec.{T, eqb, ltb}
 use lib.Bits.{bitAnd, bitOr}
 use lib.ListN.{getD}
 use Rattle.mask.specs.Range.{each, first}
 use Rattle.mask.specs.Mask.{bit}
 use Rattle.arrays.specs.Arrays.{supportedIn, commonIn}
 use Rattle.arrays.specs.Words.{reasonIn}
+
+-- The mask m has only numbers below n, and all those that pass f.
+pub record Covers (n m : ℕ) (f : ℕ → Bool) : Type 0 where
+  pub below : (x : ℕ) → T (bit m x) → x < n
+  pub all : (x : ℕ) → x < n → T (f x) → T (bit m x)
 
 -- An emptied existential domain.
 unfoldable pub emptiedIn : ℕ → List ℕ → ℕ → Bool

@@ -3,13 +3,13 @@
 ghost use mathlib.Core.Path.{_≡_};
 ghost use mathlib.Core.Bool.{_&&_};
 ghost use Prim.Native.Nat.{ℕ, _<_, _≤_};
-ghost use lib.Dec.{T};
+ghost use lib.Dec.{T, ltb};
 ghost use Rattle.mask.specs.Mask.{bit};
 ghost use lib.ListN.{length, getD};
 ghost use Rattle.mask.specs.Range.{first};
 ghost use Rattle.arrays.specs.Arrays.{InRange};
-ghost use Rattle.arc_rule.specs.Loss.{emptiedIn, barsIn, barrier, stopped, loss, conflict};
-ghost use Rattle.arc_rule.specs.ArcRule.{CalmBut, ArcSteps};
+ghost use Rattle.arc_rule.specs.Loss.{Covers, emptiedIn, barsIn, barrier, stopped, loss, conflict};
+ghost use Rattle.arc_rule.specs.ArcRule.{CalmBut, FullBut, ArcSteps};
 use arc_passes::remove_dead;
 use arc_passes::supported_of;
 use arrays::common;
@@ -25,6 +25,15 @@ pub struct Outcome {
     pub conflict: u32,
 }
 
+// The mask of all n variables.
+pub fn everyone(n: usize) -> u32
+    requires { ⌜ n ≤ 32 ⌝ }
+    ensures { λ r. ⌜ ((k : ℕ) → bit r k ≡ ltb k n) ⌝ }
+{
+    let one: u64 = 1;
+    ((one << n) - 1) as u32
+}
+
 // Whether x is existential and its domain empty.
 fn is_emptied(universal: u32, w: &[u16], x: usize) -> bool
     requires { ⌜ (x < 32) × (96 ≤ length (now w)) ⌝ }
@@ -33,17 +42,18 @@ fn is_emptied(universal: u32, w: &[u16], x: usize) -> bool
     !contains_32(universal, x) && w[x] == 0
 }
 
-// The lowest emptied variable, or n.
-fn lowest_emptied(n: usize, universal: u32, w: &[u16]) -> usize
-    requires { ⌜ (n ≤ 32) × (96 ≤ length (now w)) ⌝ }
+// The lowest emptied variable, or n. All emptied ones are in the mask m.
+fn lowest_emptied(n: usize, universal: u32, m: u32, w: &[u16]) -> usize
+    requires { ⌜ (n ≤ 32) × (96 ≤ length (now w)) × Covers n m (emptiedIn universal (now w)) ⌝ }
     ensures { λ r. ⌜ r ≡ first n (emptiedIn universal (now (w .entry))) ⌝ }
 {
-    let mut x: usize = 0;
-    while x < n {
+    let mut left = m;
+    while left != 0 {
+        let x = lowest_32(left) as usize;
         if is_emptied(universal, w, x) {
             return x;
         }
-        x += 1;
+        left = rest_of_32(left);
     }
     n
 }
@@ -119,12 +129,13 @@ fn lowest_stopped(
     requires { ⌜ (n ≤ 32) × (96 ≤ length (now w)) × InRange (now index) ⌝ }
     ensures { λ r. ⌜ r ≡ first n (stopped (now (near .entry)) (now (index .entry)) (now (rows .entry)) universal touched (now (w .entry))) ⌝ }
 {
-    let mut x: usize = 0;
-    while x < n {
+    let mut left = universal & everyone(n);
+    while left != 0 {
+        let x = lowest_32(left) as usize;
         if is_stopped(near, index, rows, universal, x, touched, w) {
             return x;
         }
-        x += 1;
+        left = rest_of_32(left);
     }
     n
 }
@@ -139,10 +150,10 @@ fn loss_in(
     touched: u32,
     w: &[u16],
 ) -> Outcome
-    requires { ⌜ (n ≤ 32) × (96 ≤ length (now w)) × InRange (now index) ⌝ }
+    requires { ⌜ (n ≤ 32) × (96 ≤ length (now w)) × InRange (now index) × ((x : ℕ) → x < n → T (emptiedIn universal (now w) x) → T (bit touched x)) ⌝ }
     ensures { λ r. ⌜ (r .loss ≡ loss (now (near .entry)) (now (index .entry)) (now (rows .entry)) universal touched (now (w .entry)) n) × (r .conflict ≡ conflict (now (near .entry)) (now (index .entry)) (now (rows .entry)) universal touched (now (w .entry)) n) ⌝ }
 {
-    let x = lowest_emptied(n, universal, w);
+    let x = lowest_emptied(n, universal, touched & everyone(n), w);
     if x < n {
         return Outcome {
             loss: true,
@@ -163,15 +174,6 @@ fn loss_in(
     }
 }
 
-// The mask of all n variables.
-pub fn everyone(n: usize) -> u32
-    requires { ⌜ n ≤ 32 ⌝ }
-    ensures { λ r. ⌜ ((k : ℕ) → k < n → T (bit r k)) ⌝ }
-{
-    let one: u64 = 1;
-    ((one << n) - 1) as u32
-}
-
 // Rule 1, where variables outside the mask `changed` have no effect on others.
 pub fn arc(
     near: &[u32; 32],
@@ -182,7 +184,7 @@ pub fn arc(
     changed: u32,
     w: &mut [u16],
 ) -> Outcome
-    requires { ⌜ (n ≤ 32) × (96 ≤ length (now w)) × InRange (now index) × CalmBut n changed (now near) (now index) (now rows) universal (now w) ⌝ }
+    requires { ⌜ (n ≤ 32) × (96 ≤ length (now w)) × InRange (now index) × CalmBut n changed (now near) (now index) (now rows) universal (now w) × FullBut n changed (now w) ⌝ }
     ensures { λ r. ⌜ ArcSteps n universal (now (near .entry)) (now (index .entry)) (now (rows .entry)) (now (w .entry)) (now (w .exit)) (r .loss) (r .conflict) ⌝ }
 {
     let touched = remove_dead(near, index, rows, n, universal, changed, w);

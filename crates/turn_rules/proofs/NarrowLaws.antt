@@ -159,8 +159,8 @@ pub heeded-first : (n universal : ℕ) (near index rows : List ℕ) (x c : ℕ) 
 heeded-first n universal near index rows x c f w u e q h = subst (λ y. Heeded n universal near index rows y f u) e (subst (λ v. Heeded n universal near index rows x v u) (q e) h)
 
 -- What rule 1 looks at.
-pub outside-none : (n c d : ℕ) (on : Bool) (narrowed r : ℕ) → ((k : ℕ) → k < n → T (bit r k)) → Outside n c d on narrowed r
-outside-none n c d on narrowed r h k l b = absurd (clash b (h k l))
+pub outside-none : (n c d : ℕ) (on : Bool) (narrowed r : ℕ) → ((k : ℕ) → bit r k ≡ ltb k n) → Outside n c d on narrowed r
+outside-none n c d on narrowed r h k l b = absurd (clash b (true-holds (h k ∙ lt-ltb k n l)))
 
 module _ (n c d : ℕ) (on : Bool) (narrowed : ℕ) (z : ¬ (c ≡ 0)) (e : c + 1 ≡ d) where
   pub outside-checked : on ≡ true → Outside n c d on narrowed narrowed

@@ -1,6 +1,7 @@
+use denote.Ref.{now}
 use borrow.Author.Needs.{needs}
 use native.Mathlib.Omega.{arith}
-use Rattle.arc_rule.proofs.ArcLaws.{arced}
+use Rattle.arc_rule.proofs.ArcLaws.{arced, emptied-touched}
 use Rattle.arc_rule.proofs.arc.Statement.{statement}
 use Rattle.arc_rule.proofs.arc.Tie as tie
 
@@ -8,7 +9,10 @@ remove-dead-requires : tie.Need-remove-dead-requires
 remove-dead-requires c κs = search needs
 
 loss-in-requires : tie.Need-loss-in-requires
-loss-in-requires c κs = search needs
+loss-in-requires c κs =
+    let e = c .before .before .before .before .before .before in
+    let p = e .pre in
+    (p .0, search needs, p .2, emptied-touched _ _ _ _ (now (e .args .w)) _ (p .0) (p .4) (c .before .before .before .remove-dead .ensures .1))
 
 same-length : tie.Need-same-length
 same-length c = search needs

@@ -1,10 +1,14 @@
 use borrow.Author.Needs.{needs}
+use Rattle.arc_rule.proofs.FirstLaws.{cover-below}
 use Rattle.arc_rule.proofs.LossSteps.{loss-emptied, loss-stopped, loss-none, stopped-barred}
 use Rattle.arc_rule.proofs.loss_in.Statement.{statement}
 use Rattle.arc_rule.proofs.loss_in.Tie as tie
 
+everyone-requires : tie.Need-everyone-requires
+everyone-requires c κs = search needs
+
 lowest-emptied-requires : tie.Need-lowest-emptied-requires
-lowest-emptied-requires c κs = search needs
+lowest-emptied-requires c κs = let p = c .before .before .pre in (p .0, p .1, cover-below _ _ _ _ (c .everyone .ensures) (p .3))
 
 reason-requires : tie.Need-reason-requires
 reason-requires c κs = search needs
@@ -40,6 +44,7 @@ pub loss-in-spec : {M : Type 1} → statement M
 loss-in-spec =
     tie.close
     (tie.spec
+    everyone-requires
     lowest-emptied-requires
     reason-requires
     returns

@@ -6,7 +6,7 @@ use Rattle.turn_rules.proofs.arc_turn.Statement.{statement}
 use Rattle.turn_rules.proofs.arc_turn.Tie as tie
 
 arc-requires : tie.Need-arc-requires
-arc-requires c κs = let p = c .before .before .before .pre in (p .0, search needs, p .2, p .5 (c .before .if1 .taken))
+arc-requires c κs = let p = c .before .before .before .pre in (p .0, search needs, p .2, p .5 (c .before .if1 .taken), λ x l _. p .3 x l)
 
 same-length : tie.Need-same-length
 same-length c = search needs
