@@ -1,5 +1,5 @@
 // Lists of calls that look random, and the plays that stand after them.
-ghost use Prim.Native.Nat.{_≤_, _<_};
+ghost use Prim.Native.Nat.{_<_};
 use crate::plays::Plays;
 use crate::plays::called;
 use crate::plays::count;

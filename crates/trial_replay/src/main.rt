@@ -14,6 +14,7 @@ use judged_cases::after;
 use judged_cases::game_at;
 use judged_cases::refused;
 use judged_cases::values;
+use plain_game::both;
 use plain_game::domain;
 use plain_game::draw;
 use plain_game::winning;
@@ -78,13 +79,17 @@ fn one_if(x: usize, b: bool) -> usize {
     if b { one_more(x) } else { x }
 }
 
+fn refused_by(a: Answer, number: usize) -> bool {
+    both(a.kind == 2, a.number == number)
+}
+
 fn noted(k: Kinds, c: Calls, a: Answer) -> Kinds {
     Kinds {
         calls: plus(k.calls, c.length),
         refused: plus(k.refused, c.refused),
-        rules: one_if(k.rules, a.number == 8),
-        done: one_if(k.done, a.number == 22),
-        short: one_if(k.short, a.number == 12),
+        rules: one_if(k.rules, refused_by(a, 8)),
+        done: one_if(k.done, refused_by(a, 22)),
+        short: one_if(k.short, refused_by(a, 12)),
     }
 }
 

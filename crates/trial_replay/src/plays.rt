@@ -1,5 +1,5 @@
 // The plain list of the plays that stand, of at most 8 variables, fed by a file and calls alone.
-ghost use Prim.Native.Nat.{_≤_, _<_};
+ghost use Prim.Native.Nat.{_≤_};
 use plain_game::both;
 use plain_game::domain;
 use plain_game::has;

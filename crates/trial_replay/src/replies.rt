@@ -1,5 +1,5 @@
 // Replays in a dirty room, compared.
-ghost use Prim.Native.Nat.{_≤_, _<_};
+ghost use Prim.Native.Nat.{_≤_};
 ghost use lib.ListN.{length};
 use history::Replayed;
 use history::replay;
