@@ -10,7 +10,7 @@ use lib.ListN.{getD, set}
 use lib.Seq.{getD-set-other}
 use borrow.Author.Tests.{eqb-true, not-false}
 use Rattle.mask.specs.Mask.{bit}
-use Rattle.mask.proofs.Logic.{true-holds, clash, by-eq, by-lt}
+use Rattle.mask.proofs.Logic.{true-holds, clash, by-eq}
 use Rattle.mask.proofs.Bits.{bit-or}
 use Rattle.game.specs.Reasons.{loop}
 use Rattle.arrays.specs.Words.{reasonIn, putReason}

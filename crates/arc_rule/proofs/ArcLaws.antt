@@ -18,7 +18,7 @@ use Rattle.arc_order.proofs.Waiting.{Sized, revisions-sized, revisions-keep}
 use Rattle.arc_passes.specs.Passes.{removedIn, Touched}
 use Rattle.arc_passes.proofs.Sheets.{sheetIn, sheet-sized, removals}
 use Rattle.arc_rule.specs.Loss.{emptiedIn, barsIn, loss, conflict}
-use Rattle.arc_rule.specs.ArcRule.{Calm, CalmBut, FullBut, Arced}
+use Rattle.arc_rule.specs.ArcRule.{CalmBut, FullBut, Arced}
 use Rattle.arc_rule.proofs.LossLaws.{loss-is, conflict-is}
 
 module _ (P : Problem) (universal : ℕ) (near index rows : List ℕ) (w v : List ℕ) (lost : Bool) (c : ℕ) (long : 96 ≤ length w) (small : (k : ℕ) → getD w k 0 < 65536)

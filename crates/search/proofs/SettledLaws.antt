@@ -1,49 +1,41 @@
 -- A turn below another starts from a list in which only the new play may have an effect on others, where the rule set has rule 1.
-use mathlib.Core.Path.{_≡_, refl, sym, ap, ap₂, subst, _∙_}
+use mathlib.Core.Path.{_≡_, refl, sym, ap, subst, _∙_}
 use mathlib.Core.Bool.{Bool, true, false, cond, not, _&&_}
 use mathlib.Core.List.{List, [], _∷_, _++_}
-use mathlib.Core.Logic.{_⊎_, inl, inr}
-use Prim.Native.Nat.{ℕ, suc, _-_, _^_, _≤_, _<_}
+use Prim.Native.Nat.{ℕ, _-_, _^_, _≤_, _<_}
 use native.Mathlib.Omega.{arith}
 use lib.Dec.{T, eqb, ltb}
-use lib.Bits.{bitAnd}
 use lib.ListN.{getD, length, set}
 use lib.Seq.{getD-set-same, getD-set-other}
 use borrow.Author.Tests.{eq-eqb, eqb-true, lt-ltb, le-ltb}
 use Rattle.mask.specs.Range.{some}
-use Rattle.mask.specs.Mask.{bit, maskOf}
-use Rattle.mask.proofs.Logic.{same, holds, true-holds, fails, clash, test, by-eq, and-in, and-out}
+use Rattle.mask.specs.Mask.{bit}
+use Rattle.mask.proofs.Logic.{same, holds, true-holds, fails, clash, test, by-eq}
 use Rattle.mask.proofs.Range.{some-out, some-in}
 use Rattle.mask.proofs.Bits.{bit-single}
-use Rattle.mask.proofs.Masks.{maskOf-same, maskOf-bits}
 use Rattle.game.specs.Problem.{Problem}
 use Rattle.game.specs.Game.{Domains}
 use Rattle.game.specs.Lists.{domains, narrowTo}
 use Rattle.game.specs.Position.{playOf, legal}
-use Rattle.game.specs.Rule.{uses, unruled, ifSo, andNext}
+use Rattle.game.specs.Rule.{uses}
 use Rattle.game.specs.Support.{clashes, alone, empty}
 use Rattle.game.specs.Arc.{dead, barred, arcLoss}
-use Rattle.game.specs.Pure.{purged, purge}
-use Rattle.game.specs.Interchangeable.{interchangeable, represent}
-use Rattle.game.specs.Turn.{nextList, narrowPure, narrowInterchangeable, reached}
-use Rattle.game.specs.Reasons.{Sheet, Step, Ruling, chain, choose, idle, kills, surviving, revisions, explainChecks, explainArc, explainAhead, explained}
+use Rattle.game.specs.Turn.{nextList, reached}
+use Rattle.game.specs.Reasons.{Sheet, Step, Ruling, chain, choose, idle, kills, revisions, explainChecks, explainArc, explainAhead, explained}
 use Rattle.game.specs.Search.{narrowNext}
-use Rattle.theory.proofs.Notions.{Masks}
 use Rattle.theory.proofs.SearchNotions.{TurnOf, first, below, Formed}
 use Rattle.theory.proofs.Arc.{Closed}
 use Rattle.theory.proofs.Revisions.{revisions-closed, kills-local}
 use Rattle.theory.proofs.Explained as explaining
 use Rattle.theory.proofs.Narrowed.{Trims}
-use Rattle.theory.proofs.Search.{F, foe, foe-in, Entry, trims, after}
+use Rattle.theory.proofs.Search.{F, foe, foe-in, trims, after}
 use Rattle.theory.proofs.TurnLists.{snoc-length}
 use Rattle.theory.proofs.Turns.{At, turn-at, turn-list, entry-loss, entry-list}
 use Rattle.theory.proofs.Lists.{domains-boxed}
-use Rattle.arrays.specs.Arrays.{States}
 use Rattle.arrays.specs.Words.{listIn, whyIn}
-use Rattle.arrays.proofs.WordLaws.{getD-listIn}
 use Rattle.arc_rule.proofs.QuietLaws.{Quiet, calm-in}
 use Rattle.turn_rules.specs.RuledTurn.{Settled}
-use Rattle.search.specs.TurnReply.{TurnIn, Stands}
+use Rattle.search.specs.TurnReply.{Stands}
 use Rattle.search.proofs.StandLaws.{plays-in}
 
 -- A chain of rules without a loss ends with what its last rule leaves.

@@ -16,7 +16,7 @@ use Rattle.mask.proofs.Logic.{holds, true-holds, fails, clash, test, by-eq, by-
 use Rattle.mask.proofs.Range.{some-out, some-in}
 use Rattle.mask.proofs.Bits.{bit-or, bit-single, bit-high, bit-ext}
 use Rattle.mask.proofs.Masks.{maskOf-lt, bit-maskOf}
-use Rattle.mask.proofs.Members.{low-lt, low-in}
+use Rattle.mask.proofs.Members.{low-in}
 use Rattle.game.specs.Problem.{Problem}
 use Rattle.game.specs.Game.{Domains}
 use Rattle.game.specs.Lists.{domains}
