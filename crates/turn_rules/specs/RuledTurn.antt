@@ -87,6 +87,13 @@ abbrev pub ArcTurn : (on : Bool) (n universal : ℕ) (near index rows : List ℕ
 ArcTurn on n universal near index rows w w' lost conflict =
     (P : Problem) → States P n universal near index rows → Replied n w w' lost conflict (choose on (explainArc P) (listIn n w) (whyIn n w))
 
+-- Rule 2, with what it narrowed and heeded, or else rule 1.
+pub record RuleTurn (rule : ℕ) (on : Bool) (n universal : ℕ) (near index rows : List ℕ) (c d : ℕ) (w w' : List ℕ) (lost : Bool) (conflict narrowed : ℕ) : Type 0 where
+  pub checks : rule ≡ 2 → ChecksTurn on n universal near index rows c d w w' lost conflict
+  pub moved : rule ≡ 2 → lost ≡ false → Narrowed n c d narrowed w w'
+  pub heeded : rule ≡ 2 → lost ≡ false → on ≡ true → c + 1 ≡ d → Heeded n universal near index rows c w w'
+  pub arcs : ¬ (rule ≡ 2) → ArcTurn on n universal near index rows w w' lost conflict
+
 abbrev pub AheadTurn : (on : Bool) (n universal : ℕ) (near index rows : List ℕ) (d : ℕ) (w : List ℕ) (lost : Bool) (conflict : ℕ) → Type 0
 AheadTurn on n universal near index rows d w lost conflict =
     (P : Problem) → States P n universal near index rows → Replied n w w lost conflict (choose on (explainAhead P d) (listIn n w) (whyIn n w))

@@ -9,7 +9,7 @@ ghost use Rattle.game.specs.Rule.{uses};
 ghost use Rattle.arrays.specs.Arrays.{InRange};
 ghost use Rattle.forward_rule.specs.Replies.{Nonzero};
 ghost use Rattle.arc_rule.specs.ArcRule.{CalmBut};
-ghost use Rattle.turn_rules.specs.RuledTurn.{Stated, Lasting, Narrowed, Heeded, Outside, Settled, CheckedPlay, CheckedPlays, ChecksTurn, ArcTurn, AheadTurn, RuledTurn};
+ghost use Rattle.turn_rules.specs.RuledTurn.{Stated, RuleTurn, Lasting, Narrowed, Heeded, Outside, Settled, CheckedPlay, CheckedPlays, ChecksTurn, ArcTurn, AheadTurn, RuledTurn};
 use arc_rule::arc;
 use arc_rule::everyone;
 use forward_rule::forward;
@@ -177,6 +177,29 @@ fn arc_turn(
     }
 }
 
+// Rule 2, or else rule 1, where it is on. `changed` is for rule 1.
+fn rule_turn(
+    rule: usize,
+    near: &[u32; 32],
+    index: &[u16; 1024],
+    rows: &[u16; 15888],
+    n: usize,
+    universal: u32,
+    on: bool,
+    changed: u32,
+    c: usize,
+    d: usize,
+    w: &mut [u16],
+) -> Said
+    requires { ⌜ (n ≤ 32) × (c ≤ d) × (d ≤ n) × (96 ≤ length (now w)) × InRange (now index) × Nonzero n (now w) × Stated n universal (now near) (now index) (now rows) × (¬ (rule ≡ 2) → on ≡ true → CalmBut n changed (now near) (now index) (now rows) universal (now w)) ⌝ }
+    ensures { λ r. ⌜ RuleTurn rule on n universal (now (near .entry)) (now (index .entry)) (now (rows .entry)) c d (now (w .entry)) (now (w .exit)) (r .loss) (r .conflict) (r .narrowed) × Lasting n (now (w .exit)) (r .loss) ⌝ }
+{
+    if rule == 2 {
+        return checks_turn(near, index, rows, n, universal, on, c, d, w);
+    }
+    arc_turn(near, index, rows, n, universal, on, changed, w)
+}
+
 // Rule 3 at variable d where it is on.
 fn ahead_turn(
     near: &[u32; 32],
@@ -224,12 +247,13 @@ pub fn run_rules(
     ensures { λ r. ⌜ RuledTurn n universal (now (near .entry)) (now (index .entry)) (now (rows .entry)) set c d (now (w .entry)) (now (w .exit)) (r .loss) (r .conflict) × Lasting n (now (w .exit)) (r .loss) ⌝ }
 {
     let checked = in_use(set, 2);
-    let s = checks_turn(near, index, rows, n, universal, checked, c, d, w);
+    let s = rule_turn(2, near, index, rows, n, universal, checked, 0, c, d, w);
     if s.loss {
         return s;
     }
     let changed = changed_by(n, c, d, checked, s.narrowed);
-    let a = arc_turn(near, index, rows, n, universal, in_use(set, 1), changed, w);
+    let used = in_use(set, 1);
+    let a = rule_turn(1, near, index, rows, n, universal, used, changed, c, d, w);
     if a.loss {
         return a;
     }

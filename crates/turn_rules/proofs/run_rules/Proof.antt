@@ -1,4 +1,5 @@
-use mathlib.Core.Path.{sym, _∙_}
+use mathlib.Core.Path.{_≡_, refl, sym, _∙_}
+use Prim.Native.Nat.{ℕ}
 use Rattle.mask.proofs.Logic.{true-holds}
 use Rattle.turn_rules.proofs.TurnLaws.{ahead-below, turn-checked, turn-narrowed, turn-ends}
 use Rattle.turn_rules.proofs.NarrowLaws.{calm-after}
@@ -10,8 +11,12 @@ use Rattle.turn_rules.proofs.run_rules.Tie as tie
 in-use-requires : tie.Need-in-use-requires
 in-use-requires c κs = search needs
 
-checks-turn-requires : tie.Need-checks-turn-requires
-checks-turn-requires c κs = search needs
+-- Rule 1 is not rule 2.
+other : ¬ (_≡_ {A = ℕ} 1 2)
+other q = omega (arith, q)
+
+rule-turn-requires : tie.Need-rule-turn-requires
+rule-turn-requires c κs = let p = c .before .before .before .pre in (p .0, p .1, p .2, p .3, p .4, p .5, p .6, λ z. absurd (z refl))
 
 same-length : tie.Need-same-length
 same-length c = search needs
@@ -21,7 +26,7 @@ returns c =
     let d = c .before .before .before in
     let p = d .before .before .before .before .pre in
     let t = c .if1 .taken in (
-      λ P st q s. turn-checked P _ _ _ _ _ st _ _ _ q _ s (p .3) _ (d .before .before .in-use .ensures) _ _ _ (d .checks-turn .ensures .0 P st q s) t,
+      λ P st q s. turn-checked P _ _ _ _ _ st _ _ _ q _ s (p .3) _ (d .before .before .in-use .ensures) _ _ _ (d .rule-turn .ensures .0 .checks refl P st q s) t,
       λ f. absurd (true-holds (sym f ∙ t)),
     )
 
@@ -31,17 +36,19 @@ changed-by-requires c κs = search needs
 in-use-requires-2 : tie.Need-in-use-requires-2
 in-use-requires-2 c κs = search needs
 
-arc-turn-requires : tie.Need-arc-turn-requires
-arc-turn-requires c κs =
+rule-turn-requires-2 : tie.Need-rule-turn-requires-2
+rule-turn-requires-2 c κs =
     let p = c .before .before .before .before .before .before .before .before .before .before .pre in
     let d = c .before .before .before .before .before .before in
     let f = c .before .before .before .if1 .left in (
       p .0,
+      p .1,
+      p .2,
       search needs,
       p .4,
-      d .checks-turn .ensures .1 f,
+      d .rule-turn .ensures .1 f,
       p .6,
-      calm-after _ _ _ _ _ _ _ _ _ _ _ _ (λ k. omega (arith, c .before .before .before .before .slice-known2 .given k)) (p .7) (d .checks-turn .ensures .2 f) _ (d .checks-turn .ensures .3 f) (c .before .before .changed-by .ensures) _ (c .before .in-use2 .ensures),
+      λ _. calm-after _ _ _ _ _ _ _ _ _ _ _ _ (λ k. omega (arith, c .before .before .before .before .slice-known2 .given k)) (p .7) (d .rule-turn .ensures .0 .moved refl f) _ (d .rule-turn .ensures .0 .heeded refl f) (c .before .before .changed-by .ensures) _ (c .before .in-use2 .ensures),
     )
 
 same-length-2 : tie.Need-same-length-2
@@ -53,8 +60,8 @@ returns-2 c =
     let d = e .before .before .before .before .before .before .before in
     let p = d .before .before .before .before .pre in
     let t = c .if2 .taken in (
-      λ P st q s. turn-narrowed P _ _ _ _ _ st _ _ _ q _ s (p .3) _ (d .before .before .in-use .ensures) _ _ _ (d .checks-turn .ensures .0 P st q s) (e .before .before .before .before .if1 .left)
-          _ (e .before .before .in-use2 .ensures) _ _ _ (e .arc-turn .ensures .0 P st) t,
+      λ P st q s. turn-narrowed P _ _ _ _ _ st _ _ _ q _ s (p .3) _ (d .before .before .in-use .ensures) _ _ _ (d .rule-turn .ensures .0 .checks refl P st q s) (e .before .before .before .before .if1 .left)
+          _ (e .before .before .in-use2 .ensures) _ _ _ (e .rule-turn2 .ensures .0 .arcs other P st) t,
       λ f. absurd (true-holds (sym f ∙ t)),
     )
 
@@ -64,7 +71,7 @@ ahead-used-requires c κs = search needs
 ahead-turn-requires : tie.Need-ahead-turn-requires
 ahead-turn-requires c κs =
     let p = c .before .before .before .before .before .before .before .before .before .before .before .before .before .before .before .before .pre in
-    (p .0, ahead-below _ _ _ _ (c .before .ahead-used .ensures), search needs, p .4, c .before .before .before .before .before .arc-turn .ensures .1 (c .before .before .if2 .left), p .6)
+    (p .0, ahead-below _ _ _ _ (c .before .ahead-used .ensures), search needs, p .4, c .before .before .before .before .before .rule-turn2 .ensures .1 (c .before .before .if2 .left), p .6)
 
 same-length-3 : tie.Need-same-length-3
 same-length-3 c = search needs
@@ -75,9 +82,9 @@ returns-3 c =
     let d = e .before .before .before .before .before .before .before in
     let p = d .before .before .before .before .pre in
     let g = c .before .before .before .if2 .left in (
-      λ P st q s. turn-ends P _ _ _ _ _ st _ _ _ q _ s (p .3) _ (d .before .before .in-use .ensures) _ _ _ (d .checks-turn .ensures .0 P st q s) (e .before .before .before .before .if1 .left)
-          _ (e .before .before .in-use2 .ensures) _ _ _ (e .arc-turn .ensures .0 P st) g _ (c .before .before .ahead-used .ensures) _ _ (c .ahead-turn .ensures P st),
-      λ _. e .arc-turn .ensures .1 g,
+      λ P st q s. turn-ends P _ _ _ _ _ st _ _ _ q _ s (p .3) _ (d .before .before .in-use .ensures) _ _ _ (d .rule-turn .ensures .0 .checks refl P st q s) (e .before .before .before .before .if1 .left)
+          _ (e .before .before .in-use2 .ensures) _ _ _ (e .rule-turn2 .ensures .0 .arcs other P st) g _ (c .before .before .ahead-used .ensures) _ _ (c .ahead-turn .ensures P st),
+      λ _. e .rule-turn2 .ensures .1 g,
     )
 
 pub run-rules-spec : {M : Type 1} → statement M
@@ -85,12 +92,12 @@ run-rules-spec =
     tie.close
     (tie.spec
     in-use-requires
-    checks-turn-requires
+    rule-turn-requires
     same-length
     returns
     changed-by-requires
     in-use-requires-2
-    arc-turn-requires
+    rule-turn-requires-2
     same-length-2
     returns-2
     ahead-used-requires
