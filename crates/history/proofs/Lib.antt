@@ -4,3 +4,5 @@
 pub mod Histories
 -- Calls in bytes.
 pub mod ByteLaws
+-- Demand 3 over the panel's session.
+pub mod Sessions
