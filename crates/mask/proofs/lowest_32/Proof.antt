@@ -1,10 +1,7 @@
 use Rattle.mask.proofs.Bits.{zeros-first}
 use Rattle.mask.proofs.lowest_32.Statement.{statement}
 use Rattle.mask.proofs.lowest_32.Tie as tie
-use Rattle.mask.proofs.lowest_32.Reads as reads
-use Rattle.mask.proofs.lowest_32.Lts as lts
 
--- src/lib.rt:92:1
 returns : tie.Need-returns
 returns c = zeros-first 32 (c .args .m)
 

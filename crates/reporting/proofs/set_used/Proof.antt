@@ -4,7 +4,6 @@ use Rattle.reporting.specs.Reporting.{setUsed}
 use Rattle.reporting.proofs.set_used.Statement.{statement}
 use Rattle.reporting.proofs.set_used.Tie as tie
 
--- /tmp/w/report/target/rlib/rule_set.rlib/interface/lang/src/lib.rt:5:29
 enum-told : tie.Need-enum-told
 enum-told c = search needs
 
