@@ -56,7 +56,7 @@ module _ (f : List ℕ) (bytes : Bytes f) (fine : verdictOf f ≡ Fine) where
   marks-told l set words s r t = read-fine f bytes _ _ fine ∙ marks-by l set words s r t (ltb (length l) (P .n)) refl
 
   pub demand-3 : (calls : List Call) (set words : ℕ) → Demand3 f bytes fine calls set words (markTold f bytes (reachedBy f bytes calls) set words) (openTold f bytes (reachedBy f bytes calls))
-  demand-3 calls set words s r = (
-    ap (λ (p : Position). markTold f bytes p set words) (reached-shows f bytes fine calls) ∙ marks-told (standing P calls) set words s r (standing-legal P calls),
+  demand-3 calls set words = (
+    λ s r. ap (λ (p : Position). markTold f bytes p set words) (reached-shows f bytes fine calls) ∙ marks-told (standing P calls) set words s r (standing-legal P calls),
     reached-opens f bytes fine calls,
   )

@@ -36,4 +36,4 @@ abbrev pub Demand3 : (f : List ℕ) (bytes : Bytes f) (fine : verdictOf f ≡ Fi
 Demand3 f bytes fine calls set words marks opened =
     let P = problemOf f bytes fine in
     let l = standing P calls in
-    set ≤ fullSet → roomNeeded (P .n) ≤ words → (marks ≡ listMarked P l) × (opened ≡ listOpened P l)
+    (set ≤ fullSet → roomNeeded (P .n) ≤ words → marks ≡ listMarked P l) × (opened ≡ listOpened P l)

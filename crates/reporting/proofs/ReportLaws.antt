@@ -15,7 +15,7 @@ use Rattle.refusal.specs.declared.Verdict.the-variants.{Fine}
 use Rattle.refusal.specs.declared.Verdict.the-variants.{Refused as Not}
 use Rattle.refusal.specs.Told.{Told, replied, refused, refusedAt}
 use Rattle.refusal.proofs.Chain.{then-ok, need-ok}
-use Rattle.rule_set.specs.RuleSet.{isRuleSet}
+use Rattle.rule_set.specs.RuleSet.{isRuleSet, fullSet}
 use Rattle.file_layout.specs.declared.Rules.{Rules}
 use Rattle.file_layout.specs.declared.Rules.the-variants.{Absent, Given}
 use Rattle.file_layout.specs.Layout.{byte, nOf, hasRules, rulesOf, variablesAt}
@@ -45,7 +45,7 @@ use Rattle.reporting.specs.Reporting.{setUsed, problemText, reportOf, Ho
 
 -- ---- before any play the tests are fine
 
-module _ (P : Problem) (set : ℕ) (small : P .n ≤ 32) (rules : set ≤ 127) where
+module _ (P : Problem) (set : ℕ) (small : P .n ≤ 32) (rules : set ≤ fullSet) where
   fresh-fits : T (fitsIn (shown []) (P .n) (P .domain))
   fresh-fits =
       legal-fits P (P .n) (P .domain) [] refl (sym (take-all (P .n) (P .domain) (omega (arith, P .sized))))
@@ -53,7 +53,7 @@ module _ (P : Problem) (set : ℕ) (small : P .n ≤ 32) (rules : set ≤ 127) w
 
   fresh-position : positionTest (P .n) (P .domain) (shown []) set ≡ Fine
   unfolding positionTest isRuleSet
-  fresh-position = then-ok _ _ (need-ok _ 8 0 (le-leb set 127 rules)) (need-ok _ 23 0 (holds fresh-fits))
+  fresh-position = then-ok _ _ (need-ok _ 8 0 (le-leb set fullSet rules)) (need-ok _ 23 0 (holds fresh-fits))
 
   fresh-room : roomTest (P .n) 4224 ≡ Fine
   unfolding roomTest
@@ -101,7 +101,7 @@ marks-in (Values w d) = refl
 marks-in (NoValues e) = refl
 marks-in (NoValuesAt e p) = refl
 
-module _ (f : List ℕ) (bytes : Bytes f) (fine : verdictOf f ≡ Fine) (p : Position) (set words : ℕ) (fresh : p ≡ shown []) (long : words ≡ 4224) (rules : set ≤ 127) where
+module _ (f : List ℕ) (bytes : Bytes f) (fine : verdictOf f ≡ Fine) (p : Position) (set words : ℕ) (fresh : p ≡ shown []) (long : words ≡ 4224) (rules : set ≤ fullSet) where
   abbrev P : Problem
   P = problemOf f bytes fine
 
@@ -142,11 +142,11 @@ pub reply-same : (n m set : ℕ) (universal : Bool) {won won' : Bool} {d d' w w'
 reply-same n m set universal e g h = rw (e, g, h)
 
 -- The set used is a rule set.
-set-small : (f : List ℕ) → verdictOf f ≡ Fine → setUsed (rulesOf f) ≤ 127
+set-small : (f : List ℕ) → verdictOf f ≡ Fine → setUsed (rulesOf f) ≤ fullSet
 unfolding setUsed rulesOf
 set-small f fine = go (hasRules f) refl
   where
-    go : (b : Bool) → hasRules f ≡ b → setUsed (cond b (Given (byte f 7)) Absent) ≤ 127
+    go : (b : Bool) → hasRules f ≡ b → setUsed (cond b (Given (byte f 7)) Absent) ≤ fullSet
     go true e = accepted f fine .rules e .1
     go false e = omega arith
 
@@ -160,7 +160,7 @@ accepted-text f bytes n m rules u s set universal e g =
 pub accepted-holds : (f : List ℕ) (bytes : Bytes f) (n m : ℕ) (rules : Rules) (u : ℕ) → Shows f n m rules u → (set : ℕ) (universal : Bool) → set ≡ setUsed rules → universal ≡ bit u 0
     → (l : List ℕ) (r : ℕ) (l' : List ℕ) → ReportsAccepted f n m set universal l r l' → Holds (reportOf f bytes) l r l'
 accepted-holds f bytes n m rules u s set universal e g l r l' h =
-    let k : set ≤ 127 = rw (e, s .set) (set-small f (s .fine)) in
+    let k : set ≤ fullSet = rw (e, s .set) (set-small f (s .fine)) in
     subst (λ (t : List ℕ). Holds t l r l') (accepted-text f bytes n m rules u s set universal e g) (h bytes (s .fine) k)
 
 -- The text of a refused one.

@@ -5,7 +5,7 @@ use mathlib.Core.Bool.{Bool, true, false}
 use mathlib.Core.List.{List, [], _++_}
 use lib.ListN.{getD, length, drop}
 use Rattle.refusal.specs.declared.Verdict.the-variants.{Fine}
-use Rattle.rule_set.specs.RuleSet.{usualSet}
+use Rattle.rule_set.specs.RuleSet.{usualSet, fullSet}
 use Rattle.file_layout.specs.declared.Rules.{Rules}
 use Rattle.file_layout.specs.declared.Rules.the-variants.{Absent, Given}
 use Rattle.file_layout.specs.Layout.{mOf, rulesOf}
@@ -56,14 +56,14 @@ marksBy (NoValuesAt e p) = record { winning = 0; domain = 0 }
 
 -- Of an accepted file, under a rule set: its verdict, the marks of its first variable, its text.
 abbrev pub JudgesFirst : List ℕ → ℕ → Bool → Type 0
-JudgesFirst f set r = (bytes : Bytes f) (fine : verdictOf f ≡ Fine) → set ≤ 127 → r ≡ verdict (problemOf f bytes fine) []
+JudgesFirst f set r = (bytes : Bytes f) (fine : verdictOf f ≡ Fine) → set ≤ fullSet → r ≡ verdict (problemOf f bytes fine) []
 
 abbrev pub MarksFirst : List ℕ → ℕ → First → Type 0
 MarksFirst f set r =
-    (bytes : Bytes f) (fine : verdictOf f ≡ Fine) → set ≤ 127
+    (bytes : Bytes f) (fine : verdictOf f ≡ Fine) → set ≤ fullSet
     → (r .winning ≡ winningValues (problemOf f bytes fine) []) × (r .domain ≡ getD (problemOf f bytes fine .domain) 0 0)
 
 abbrev pub ReportsAccepted : List ℕ → ℕ → ℕ → ℕ → Bool → List ℕ → ℕ → List ℕ → Type 0
 ReportsAccepted f n m set universal l r l' =
-    (bytes : Bytes f) (fine : verdictOf f ≡ Fine) → set ≤ 127
+    (bytes : Bytes f) (fine : verdictOf f ≡ Fine) → set ≤ fullSet
     → Holds (replyText n m set (verdict (problemOf f bytes fine) []) 0 universal (getD (problemOf f bytes fine .domain) 0 0) (winningValues (problemOf f bytes fine) [])) l r l'

@@ -70,8 +70,8 @@ module _ (f : List ℕ) (bytes : Bytes f) (set words : ℕ) (fine : verdictOf f 
   answer-plain cs reading = refl
   answer-plain cs (lookingUp i j) = refl
   answer-plain cs judging = judge-plain cs
-  answer-plain cs marking = demand-3 f bytes fine cs set words known room .0
-  answer-plain cs opening = demand-3 f bytes fine cs set words known room .1
+  answer-plain cs marking = demand-3 f bytes fine cs set words .0 known room
+  answer-plain cs opening = demand-3 f bytes fine cs set words .1
   answer-plain cs (calling c) = reached-told f bytes fine cs c
   answer-plain cs (arc l) = reads (λ Q. arcReply Q l)
   answer-plain cs (arcLeaving l) = ap replied (read-fine f bytes (λ e p. l) (λ Q. arcList Q l) fine)

@@ -51,7 +51,7 @@ returns c =
         opened o,
         (
           λ bytes. m .mark .ensures .1 bytes ∙ ap (λ (p : Position). markLeft (a .f .now) bytes p (a .set) (a .room .now)) (over (o .before) bytes),
-          λ bytes fine s r. let d = demand-3 (a .f .now) bytes fine (callsOf (a .calls .now)) (a .set) (length (a .room .now)) s r in (marked m bytes ∙ d .0, opened o bytes ∙ d .1),
+          λ bytes fine. let d = demand-3 (a .f .now) bytes fine (callsOf (a .calls .now)) (a .set) (length (a .room .now)) in (λ s r. marked m bytes ∙ d .0 s r, opened o bytes ∙ d .1),
         ),
       ),
     )
