@@ -30,14 +30,22 @@ holding-behind n b w l R k h = by-lt k (length w)
     (λ u. getD-listOf (length w) (wordOf n w l R) k u ∙ rw (le-ltb k n (omega arith), le-leb 32 k (omega arith), le-ltb k (32 + 2 * n) (omega arith)))
     (λ u. let z = length-holding n w l R in List·getD-eq-default (holding n w l R) 0 (omega arith) ∙ sym (List·getD-eq-default w 0 u))
 
+-- The words after the rules: as many, and the same behind the reasons.
+module _ {n : ℕ} {w v : List ℕ} {lost : Bool} {q : ℕ} {o : Step} where
+  pub replied-size : Replied n w v lost q o → length v ≡ length w
+  replied-size R = ap length (R .words) ∙ length-holding n w (o .list) (o .why)
+
+  pub replied-behind : n ≤ 32 → Replied n w v lost q o → (k : ℕ) → 96 ≤ k → getD v k 0 ≡ getD w k 0
+  replied-behind m R k h = ap (λ x. getD x k 0) (R .words) ∙ holding-behind n m w (o .list) (o .why) k h
+
 module _ (P : Problem) (n universal : ℕ) (near index rows : List ℕ) (st : States P n universal near index rows) (S c d : ℕ) (p w : List ℕ) (b : 96 ≤ length w) where
   -- The rules found a loss.
   pub enters-lost : (v : List ℕ) (lost : Bool) (q : ℕ) → Replied n w v lost q (explained P S c p (listIn n w) (whyIn n w)) → lost ≡ true
       → (left : ℕ) (narrowed : Bool) → Enters P n S c d p w v true q left narrowed
   enters-lost v lost q R t left narrowed =
       record {
-        size = ap length (R .words) ∙ length-holding n w _ _;
-        kept = λ k h. ap (λ x. getD x k 0) (R .words) ∙ holding-behind n (st .most) w _ _ k h;
+        size = replied-size R;
+        kept = replied-behind (st .most) R;
         loss = sym t ∙ R .loss;
         set = λ _. R .set t;
         lost-list = λ _. ap (listIn n) (R .words) ∙ listIn-holding n (st .most) w b _ _ (R .masks);
@@ -60,12 +68,12 @@ module _ (P : Problem) (n universal : ℕ) (near index rows : List ℕ) (st : St
       let o = explained P S c p (listIn n w) (whyIn n w) in
       let held : listIn n v ≡ o .list = ap (listIn n) (R .words) ∙ listIn-holding n (st .most) w b (o .list) (o .why) (R .masks) in
       let whys : whyIn n v ≡ o .why = ap (whyIn n) (R .words) ∙ whyIn-holding n (st .most) w b (o .list) (o .why) (R .reasons) in
-      let long : length v ≡ length w = ap length (R .words) ∙ length-holding n w (o .list) (o .why) in
+      let long : length v ≡ length w = replied-size R in
       let list' : listIn n x ≡ narrowNext P S d (o .list) .list = s .list ∙ ap (λ (l : List ℕ). narrowNext P S d l .list) held in
       let lengths : length (narrowNext P S d (listIn n v) .list) ≡ n = sym (ap length (s .list)) ∙ length-listIn n x in
       record {
         size = ap length (s .words) ∙ length-set v d _ ∙ long;
-        kept = λ k u. ap (λ y. getD y k 0) (s .holds) ∙ holding-behind n (st .most) v _ _ k u ∙ ap (λ y. getD y k 0) (R .words) ∙ holding-behind n (st .most) w _ _ k u;
+        kept = λ k u. ap (λ y. getD y k 0) (s .holds) ∙ holding-behind n (st .most) v _ _ k u ∙ replied-behind (st .most) R k u;
         loss = sym t ∙ R .loss;
         set = λ u. absurd (subst (λ b. T (not b)) u tt);
         lost-list = λ u. absurd (subst (λ b. T (not b)) u tt);

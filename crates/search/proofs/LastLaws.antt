@@ -2,7 +2,7 @@
 use mathlib.Core.Path.{_≡_, refl, sym, ap, subst, _∙_}
 use mathlib.Core.Bool.{Bool, true, false, cond}
 use mathlib.Core.List.{List}
-use mathlib.Core.Logic.{_⊎_, inl, inr, ⊎-elim}
+use mathlib.Core.Logic.{inl, inr}
 use Prim.Native.Nat.{ℕ, zero, _+_, _-_, _*_, _^_, _≤_, _<_}
 use native.Mathlib.Omega.{arith}
 use lib.Dec.{T}
@@ -19,18 +19,11 @@ use Rattle.theory.proofs.Theorems as theorems
 use Rattle.theory.proofs.Notions.{AtTurn}
 use Rattle.arrays.specs.Arrays.{States}
 use Rattle.arrays.specs.Words.{listIn, whyIn, leafIn}
-use Rattle.arrays.proofs.WordLaws.{length-listIn, getD-listIn, length-leafIn, getD-leafIn}
+use Rattle.arrays.proofs.WordLaws.{length-listIn, getD-listIn}
 use Rattle.leaf_test.specs.Leaf.{Plays, Tells, withLeaf}
 use Rattle.leaf_test.proofs.BrokenLaws.{broken-some}
 use Rattle.leaf_test.proofs.LeafWords.{length-withLeaf, withLeaf-other, leaf-small, leaf-of-play}
-use Rattle.turn_words.specs.TurnRoom.{zeroed, cleared}
-use Rattle.turn_words.proofs.RoomLaws.{run-other, length-cleared, cleared-at}
 use Rattle.search.specs.TurnReply.{replyIn, roomOf, TurnIn, Blank, Leaves}
-
--- Words behind the reasons stay.
-pub cleared-other : (w : List ℕ) (k : ℕ) → 96 ≤ k → getD (cleared w) k 0 ≡ getD w k 0
-unfolding cleared zeroed
-cleared-other w k h = run-other 0 96 (λ k. 0) w k (inr h)
 
 -- Every played variable has the mask of its value.
 pub played : (P : Problem) (n S c d : ℕ) (p w : List ℕ) → ((k : ℕ) → getD w k 0 < 65536) → P .n ≡ n → TurnIn P n S c d p w
@@ -64,22 +57,23 @@ module _ (P : Problem) (n universal : ℕ) (near index rows : List ℕ) (st : St
     told : broken ≡ cond (satisfied (P .compatible) n (playOf p)) 0 (firstBroken P p)
     told = tells P universal p st all-played
 
-    pub last-won : broken ≡ 0 → 128 ≤ length w → n ≤ 32 → (w' : List ℕ) → w' ≡ cleared (withLeaf n w) → (q : ℕ)
-        → search P S c (n - n) p (listIn n w) (whyIn n w) ≡ replyIn n true q w'
-    unfolding replyIn
-    last-won z b m w' e q =
-        reply ∙ go (satisfied (P .compatible) n (playOf p)) (sym told ∙ z)
-        ∙ ap solved (sym (ap (leafIn n) e ∙ kept ∙ leaf-of-play n w p (omega arith) all-played))
+    -- No constraint is broken.
+    unbroken : broken ≡ 0 → satisfied (P .compatible) n (playOf p) ≡ true
+    unbroken z = go (satisfied (P .compatible) n (playOf p)) (sym told ∙ z)
       where
-        go : (s : Bool) → cond s 0 (firstBroken P p) ≡ 0 → cond s (solved p) (failed (handed (uses S 6) n (firstBroken P p))) ≡ solved p
+        go : (s : Bool) → cond s 0 (firstBroken P p) ≡ 0 → s ≡ true
         go true r = refl
         go false r = absurd (broken-some P p r)
 
-        kept : leafIn n (cleared (withLeaf n w)) ≡ leafIn n (withLeaf n w)
-        kept =
-            let k = length-leafIn n (cleared (withLeaf n w)) in
-            ext-getD 0 (leafIn n (cleared (withLeaf n w))) (leafIn n (withLeaf n w)) (k ∙ sym (length-leafIn n (withLeaf n w))) λ j h.
-            getD-leafIn n (cleared (withLeaf n w)) j (omega arith) ∙ cleared-other (withLeaf n w) (96 + j) (omega arith) ∙ sym (getD-leafIn n (withLeaf n w) j (omega arith))
+    pub holds-all : broken ≡ 0 → T (satisfied (P .compatible) (P .n) (playOf p))
+    holds-all z = subst (λ k. T (satisfied (P .compatible) k (playOf p))) (sym (st .size)) (subst (λ b. T b) (sym (unbroken z)) tt)
+
+    pub last-won : broken ≡ 0 → 128 ≤ length w → n ≤ 32 → (w' : List ℕ) → w' ≡ withLeaf n w → (q : ℕ)
+        → search P S c (n - n) p (listIn n w) (whyIn n w) ≡ replyIn n true q w'
+    unfolding replyIn
+    last-won z b m w' e q =
+        reply ∙ ap (λ s. cond s (solved p) (failed (handed (uses S 6) n (firstBroken P p)))) (unbroken z)
+        ∙ ap solved (sym (ap (leafIn n) e ∙ leaf-of-play n w p (omega arith) all-played))
 
     pub last-lost : ¬ (broken ≡ 0) → (six : Bool) → six ≡ uses S 6 → (set : ℕ) → set ≡ handed six n broken → (w' : List ℕ)
         → search P S c (n - n) p (listIn n w) (whyIn n w) ≡ replyIn n false set w'
@@ -90,32 +84,28 @@ module _ (P : Problem) (n universal : ℕ) (near index rows : List ℕ) (st : St
         go true r = absurd (z r)
         go false r = ap (λ b. failed (handed (uses S 6) n b)) (sym r)
 
--- The room: domains and reasons cleared, with a leaf and without.
+-- The room, with a leaf and without.
 module _ (n : ℕ) (w w' : List ℕ) (m : n ≤ 32) (b : 128 ≤ length w) (blank : Blank 128 w) where
-  own-words : roomOf n n ≡ 128
-  own-words = omega arith
+  pub leaves-won : w' ≡ withLeaf n w → Leaves n (roomOf n n) true w w'
+  leaves-won e = record {
+    size = ap length e ∙ length-withLeaf n w;
+    behind = λ k h u. ap (λ x. getD x k 0) e ∙ withLeaf-other n w k (inr h) ∙ blank k (omega arith) (omega arith);
+    small = λ j h. subst (λ (x : List ℕ). getD x (96 + j) 0 < 16) (sym e) (leaf-small n w (omega arith) j h);
+    lost = λ f. absurd (subst (λ b. T b) f tt);
+    beyond = λ k h. ap (λ x. getD x k 0) e ∙ withLeaf-other n w k (inr (omega arith));
+  }
 
-  pub leaves-won : w' ≡ cleared (withLeaf n w) → Leaves n (roomOf n n) true w w'
-  leaves-won e =
-      let l = length-withLeaf n w in
-      record {
-        size = ap length e ∙ length-cleared (withLeaf n w) ∙ l;
-        own = λ k h o. ap (λ x. getD x k 0) e
-            ∙ by-lt k 96 (λ u. cleared-at (withLeaf n w) k (omega arith) u)
-            (λ u. cleared-other (withLeaf n w) k u ∙ withLeaf-other n w k (⊎-elim (λ v. inl v) (λ v. inr v) o) ∙ blank k u (omega arith));
-        small = λ j h. rw (e, cleared-other (withLeaf n w) (96 + j) (omega arith)) (leaf-small n w (omega arith) j h);
-        lost = λ f. absurd (subst (λ b. T b) f tt);
-        beyond = λ k h. ap (λ x. getD x k 0) e ∙ cleared-other (withLeaf n w) k (omega arith) ∙ withLeaf-other n w k (inr (omega arith));
-      }
+  pub leaf-list : w' ≡ withLeaf n w → listIn n w' ≡ listIn n w
+  leaf-list e =
+      let l = length-listIn n w' in
+      ext-getD 0 (listIn n w') (listIn n w) (l ∙ sym (length-listIn n w)) λ j h.
+      getD-listIn n w' j (omega arith) ∙ ap (λ x. getD x j 0) e ∙ withLeaf-other n w j (inl (omega arith)) ∙ sym (getD-listIn n w j (omega arith))
 
-  pub leaves-lost : w' ≡ cleared w → Leaves n (roomOf n n) false w w'
-  leaves-lost e =
-      let zeros : (k : ℕ) → k < 128 → getD w' k 0 ≡ 0 = λ k h. ap (λ x. getD x k 0) e
-      ∙ by-lt k 96 (λ u. cleared-at w k (omega arith) u) (λ u. cleared-other w k u ∙ blank k u h) in
-      record {
-        size = ap length e ∙ length-cleared w;
-        own = λ k h o. zeros k (omega arith);
-        small = λ j h. let z = zeros (96 + j) (omega arith) in omega arith;
-        lost = λ f k h. zeros k (omega arith);
-        beyond = λ k h. ap (λ x. getD x k 0) e ∙ cleared-other w k (omega arith);
-      }
+  pub leaves-lost : length w' ≡ length w → ((k : ℕ) → 96 ≤ k → getD w' k 0 ≡ getD w k 0) → Leaves n (roomOf n n) false w w'
+  leaves-lost s e = record {
+    size = s;
+    behind = λ k h u. e k (omega arith) ∙ blank k (omega arith) (omega arith);
+    small = λ j h. let z = e (96 + j) (omega arith) ∙ blank (96 + j) (omega arith) (omega arith) in omega arith;
+    lost = λ _ k h u. e k h ∙ blank k h (omega arith);
+    beyond = λ k h. e k (omega arith);
+  }

@@ -6,6 +6,8 @@ pub mod LastLaws
 pub mod TurnLaws
 -- The rules of a turn and the narrowing of its variable, together.
 pub mod EnterLaws
+-- The list that a turn leaves is the one that its rules reach.
+pub mod ReachLaws
 -- The test of rule 6 after a loss below.
 pub mod StepLaws
 -- The room between two values of a turn, and what it leaves.

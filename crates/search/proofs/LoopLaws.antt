@@ -22,7 +22,7 @@ use Rattle.arrays.specs.Words.{listIn, whyIn, leafIn}
 use Rattle.turn_words.specs.TurnSets.{ReasonsBelow}
 use Rattle.turn_rules.specs.RuledTurn.{Stated}
 use Rattle.search.specs.TurnReply.{TurnIn, Blank}
-use Rattle.search.proofs.RoomTurns.{Mid, mid-start}
+use Rattle.search.proofs.RoomTurns.{Mid, Leafless, mid-start}
 use Rattle.search.proofs.ValueLaws.{some-on, each-lost, each-on, untried-past, untried-small, untried-part}
 
 -- What the turn below replies where value a of d is played over the words x.
@@ -38,7 +38,7 @@ Tries P n S d p left x =
 -- The existential turn: what is left of the mask, from the set so far, replies what all does from the first set.
 pub record SomeLoop (n universal : ℕ) (near index rows : List ℕ) (S d t : ℕ) (x : List ℕ) (J₀ left₀ : ℕ) (y : List ℕ) (J left : ℕ) : Type 0 where
   pub mid : Mid n t x y
-  pub blank : Blank t y
+  pub bare : Leafless y
   pub small : left < 2 ^ 16
   pub part : (a : ℕ) → T (bit left a) → T (bit left₀ a)
   pub same : (P : Problem) → States P n universal near index rows → (p : List ℕ) → Tries P n S d p left₀ x
@@ -54,17 +54,17 @@ pub record EachLoop (n universal : ℕ) (near index rows : List ℕ) (S d t : �
       ≡ eachValue (λ q a. uses S 7 && skippable P (listIn n x) d q a) (replyBelow P n S d p x) 16 0 left₀ p
 
 module _ (n universal : ℕ) (near index rows : List ℕ) (S d t : ℕ) (x : List ℕ) where
-  pub some-start : (J left : ℕ) → 96 + n ≤ t → Blank t x → left < 2 ^ 16 → SomeLoop n universal near index rows S d t x J left x J left
-  some-start J left b z l = record { mid = mid-start n t x b z; blank = z; small = l; part = λ a m. m; same = λ P st p tries. refl }
+  pub some-start : (J left : ℕ) → 128 ≤ t → 96 + n ≤ t → Blank t x → left < 2 ^ 16 → SomeLoop n universal near index rows S d t x J left x J left
+  some-start J left r b z l = record { mid = mid-start n t x b z; bare = λ k h u. z k h (omega arith); small = l; part = λ a m. m; same = λ P st p tries. refl }
 
   -- One value more, lost with a set that leads on.
   pub some-next : (J₀ left₀ : ℕ) (y : List ℕ) (J left : ℕ) → SomeLoop n universal near index rows S d t x J₀ left₀ y J left
-      → ¬ (left ≡ 0) → (a : ℕ) → a ≡ first 16 (bit left) → (y' : List ℕ) → Mid n t x y' → Blank t y' → (q J' left' : ℕ) → (uses S 6 && not (bit q d)) ≡ false
+      → ¬ (left ≡ 0) → (a : ℕ) → a ≡ first 16 (bit left) → (y' : List ℕ) → Mid n t x y' → Leafless y' → (q J' left' : ℕ) → (uses S 6 && not (bit q d)) ≡ false
       → ((P : Problem) → States P n universal near index rows → (p : List ℕ) → Tries P n S d p left₀ x → replyBelow P n S d p x a ≡ failed q)
       → left' ≡ rest left → J' ≡ bitOr J q → SomeLoop n universal near index rows S d t x J₀ left₀ y' J' left'
   some-next J₀ left₀ y J left l z a e y' m b q J' left' j f g k = record {
     mid = m;
-    blank = b;
+    bare = b;
     small = let r = rest-lt left z in let s = l .small in omega (arith, g);
     part = λ v h. l .part v (and-out (bit left v) (not (eqb v (first 16 (bit left)))) (subst (λ b. T b) (bit-rest 16 left (l .small) z v) (subst (λ m. T (bit m v)) g h)) .0);
     same = λ P st p tries. some-on (uses S 6) d (replyBelow P n S d p x) left J _ (l .same P st p tries) (l .small) z a e q left' J' (f P st p tries) j g k;

@@ -11,27 +11,30 @@ use lib.Seq.{ext-getD, getD-take, getD-drop, getD-append-add, length-take-le}
 use Rattle.mask.proofs.Logic.{by-lt}
 use Rattle.arrays.specs.Words.{listIn, reasonIn, whyIn, leafIn}
 use Rattle.arrays.proofs.WordLaws.{length-listIn, getD-listIn, length-whyIn, getD-whyIn, length-leafIn, getD-leafIn}
-use Rattle.turn_words.specs.TurnRoom.{cleared, leafCleared, handedDown, leafTaken}
-use Rattle.turn_words.proofs.RoomLaws.{length-cleared, cleared-at, length-leafCleared, leafCleared-at, leafCleared-other, length-leafTaken, leafTaken-at, leafTaken-below, leafTaken-other}
+use Rattle.turn_words.specs.TurnRoom.{zeroed, handedDown, leafTaken}
+use Rattle.turn_words.proofs.RoomLaws.{length-zeroed, zeroed-at, zeroed-other, length-leafTaken, leafTaken-at, leafTaken-below, leafTaken-other}
 use Rattle.turn_words.proofs.ChildLaws.{length-handedDown, handedDown-other}
 use Rattle.search.specs.TurnReply.{roomOf, Blank, Leaves}
-use Rattle.search.proofs.LastLaws.{cleared-other}
 
--- The words y between two values, x being those after the rules: domains and reasons as in x, a leaf or none, the words behind it zero, those
--- from t on as in x.
+-- The words y between two values, x being those after the rules: domains and reasons as in x, a leaf or none; the words behind the leaf are zero but
+-- for domains and reasons of the turn below; those from t on as in x.
 pub record Mid (n t : ℕ) (x y : List ℕ) : Type 0 where
   pub size : length y ≡ length x
   pub own : (k : ℕ) → k < 96 → getD y k 0 ≡ getD x k 0
-  pub behind : (k : ℕ) → 96 + n ≤ k → k < t → getD y k 0 ≡ 0
+  pub behind : (k : ℕ) → 96 + n ≤ k → k < t → (k < 128) ⊎ (224 ≤ k) → getD y k 0 ≡ 0
   pub small : (j : ℕ) → j < n → getD y (96 + j) 0 < 16
   pub beyond : (k : ℕ) → t ≤ k → getD y k 0 ≡ getD x k 0
 
--- Before the first value, where no leaf stands.
+-- No leaf stands.
+abbrev pub Leafless : List ℕ → Type 0
+Leafless y = (k : ℕ) → 96 ≤ k → k < 128 → getD y k 0 ≡ 0
+
+-- Before the first value.
 pub mid-start : (n t : ℕ) (x : List ℕ) → 96 + n ≤ t → Blank t x → Mid n t x x
 mid-start n t x b z = record {
   size = refl;
   own = λ k h. refl;
-  behind = λ k h l. z k (omega arith) l;
+  behind = λ k h l _. z k (omega arith) l;
   small = λ j h. let e = z (96 + j) (omega arith) (omega arith) in omega arith;
   beyond = λ k h. refl;
 }
@@ -50,50 +53,78 @@ module _ (n t : ℕ) (x y : List ℕ) (m : Mid n t x y) (b : n ≤ 32) where
       ext-getD 0 (whyIn n y) (whyIn n x) (e ∙ sym (length-whyIn n x)) λ j h.
       getD-whyIn n y j (omega arith) ∙ ap₂ (λ a b. a + 65536 * b) (m .own (32 + 2 * j) (omega arith)) (m .own (33 + 2 * j) (omega arith)) ∙ sym (getD-whyIn n x j (omega arith))
 
-  -- What the turn leaves: w are its words at entry.
-  module _ (w w' : List ℕ) (long : length x ≡ length w) (far : (k : ℕ) → t ≤ k → getD x k 0 ≡ getD w k 0) (t≤ : t ≤ length w) (n≤ : 128 ≤ t) where
-    -- Won with the leaf that stands there.
-    pub leaves-leaf : w' ≡ cleared y → Leaves n t true w w'
-    leaves-leaf e =
-        let s = m .size in
-        record {
-          size = ap length e ∙ length-cleared y ∙ s ∙ long;
-          own = λ k h o. ap (λ v. getD v k 0) e
-              ∙ by-lt k 96 (λ u. cleared-at y k (omega arith) u) (λ u. cleared-other y k u ∙ m .behind k (⊎-elim (λ v. absurd (omega arith)) (λ v. v) o) h);
-          small = λ j h. subst (λ v. getD v (96 + j) 0 < 16) (sym e) (subst (λ v. v < 16) (sym (cleared-other y (96 + j) (omega arith))) (m .small j h));
-          lost = λ f. absurd (subst (λ b. T b) f tt);
-          beyond = λ k h. ap (λ v. getD v k 0) e ∙ cleared-other y k (omega arith) ∙ m .beyond k h ∙ far k h;
-        }
+  -- The leaf cleared.
+  module _ (u : List ℕ) (long : 128 ≤ length x) (t≥ : 128 ≤ t) (e : u ≡ zeroed 96 128 y) where
+    wiped-at : (k : ℕ) → 96 ≤ k → k < 128 → getD u k 0 ≡ 0
+    wiped-at k p q = let s = m .size in ap (λ v. getD v k 0) e ∙ zeroed-at 96 128 y k p q (omega arith)
 
-    pub leaf-handed : w' ≡ cleared y → leafIn n w' ≡ leafIn n y
-    leaf-handed e =
+    wiped-other : (k : ℕ) → (k < 96) ⊎ (128 ≤ k) → getD u k 0 ≡ getD y k 0
+    wiped-other k o = ap (λ v. getD v k 0) e ∙ zeroed-other 96 128 y k o
+
+    pub mid-wiped : Mid n t x u
+    mid-wiped = record {
+      size = ap length e ∙ length-zeroed 96 128 y ∙ m .size;
+      own = λ k h. wiped-other k (inl h) ∙ m .own k h;
+      behind = λ k h l o. ⊎-elim (λ p. wiped-at k (omega arith) p) (λ p. wiped-other k (inr (omega arith)) ∙ m .behind k h l (inr p)) o;
+      small = λ j h. let z = wiped-at (96 + j) (omega arith) (omega arith) in omega arith;
+      beyond = λ k h. wiped-other k (inr (omega arith)) ∙ m .beyond k h;
+    }
+
+    pub wiped-leafless : Leafless u
+    wiped-leafless = wiped-at
+
+  -- What the turn leaves, the words of the turn below cleared: w are its words at entry.
+  module _ (w w' : List ℕ) (long : length x ≡ length w) (far : (k : ℕ) → t ≤ k → getD x k 0 ≡ getD w k 0) (fits : t ≤ length w) (deep : 256 ≤ t) (e : w' ≡ zeroed 128 224 y) where
+    left-at : (k : ℕ) → 128 ≤ k → k < 224 → getD w' k 0 ≡ 0
+    left-at k p q = let s = m .size in ap (λ v. getD v k 0) e ∙ zeroed-at 128 224 y k p q (omega arith)
+
+    left-other : (k : ℕ) → (k < 128) ⊎ (224 ≤ k) → getD w' k 0 ≡ getD y k 0
+    left-other k o = ap (λ v. getD v k 0) e ∙ zeroed-other 128 224 y k o
+
+    left-zero : (k : ℕ) → ((k < 128) ⊎ (224 ≤ k) → getD y k 0 ≡ 0) → getD w' k 0 ≡ 0
+    left-zero k z = by-lt k 128 (λ p. left-other k (inl p) ∙ z (inl p)) (λ p. by-lt k 224 (λ q. left-at k p q) (λ q. left-other k (inr q) ∙ z (inr q)))
+
+    left-size : length w' ≡ length w
+    left-size = ap length e ∙ length-zeroed 128 224 y ∙ m .size ∙ long
+
+    left-beyond : (k : ℕ) → t ≤ k → getD w' k 0 ≡ getD w k 0
+    left-beyond k h = left-other k (inr (omega arith)) ∙ m .beyond k h ∙ far k h
+
+    -- The list.
+    pub left-list : listIn n w' ≡ listIn n x
+    left-list =
+        let l = length-listIn n w' in
+        ext-getD 0 (listIn n w') (listIn n x) (l ∙ sym (length-listIn n x)) λ j h.
+        getD-listIn n w' j (omega arith) ∙ left-other j (inl (omega arith)) ∙ m .own j (omega arith) ∙ sym (getD-listIn n x j (omega arith))
+
+    -- Won with the leaf that stands there.
+    pub leaves-leaf : Leaves n t true w w'
+    leaves-leaf = record {
+      size = left-size;
+      behind = λ k h l. left-zero k (m .behind k h l);
+      small = λ j h. subst (λ v. v < 16) (sym (left-other (96 + j) (inl (omega arith)))) (m .small j h);
+      lost = λ f. absurd (subst (λ b. T b) f tt);
+      beyond = left-beyond;
+    }
+
+    pub leaf-handed : leafIn n w' ≡ leafIn n y
+    leaf-handed =
         let l = length-leafIn n w' in
         ext-getD 0 (leafIn n w') (leafIn n y) (l ∙ sym (length-leafIn n y)) λ j h.
-        getD-leafIn n w' j (omega arith) ∙ ap (λ v. getD v (96 + j) 0) e ∙ cleared-other y (96 + j) (omega arith) ∙ sym (getD-leafIn n y j (omega arith))
+        getD-leafIn n w' j (omega arith) ∙ left-other (96 + j) (inl (omega arith)) ∙ sym (getD-leafIn n y j (omega arith))
 
-    all-zero : ((k : ℕ) → k < t → getD w' k 0 ≡ 0) → length w' ≡ length y → ((k : ℕ) → t ≤ k → getD w' k 0 ≡ getD y k 0) → Leaves n t false w w'
-    all-zero z l f =
+    -- Lost where no leaf stands.
+    pub leaves-none : Leafless y → Leaves n t false w w'
+    leaves-none z =
+        let zeros : (k : ℕ) → 96 ≤ k → k < t → getD w' k 0 ≡ 0 =
+        λ k h l. left-zero k (⊎-elim (λ p. z k h p) (λ p. m .behind k (omega arith) l (inr p))) in
         record {
-          size = l ∙ m .size ∙ long;
-          own = λ k h o. z k h;
-          small = λ j h. let e = z (96 + j) (omega arith) in omega arith;
-          lost = λ _. z;
-          beyond = λ k h. f k h ∙ m .beyond k h ∙ far k h;
+          size = left-size;
+          behind = λ k h l. zeros k (omega arith) l;
+          small = λ j h. let z = zeros (96 + j) (omega arith) (omega arith) in omega arith;
+          lost = λ _. zeros;
+          beyond = left-beyond;
         }
-
-    -- Lost where no leaf stands, and where the leaf is cleared.
-    pub leaves-none : Blank t y → w' ≡ cleared y → Leaves n t false w w'
-    leaves-none z e = let s = m .size in all-zero
-        (λ k h. ap (λ v. getD v k 0) e ∙ by-lt k 96 (λ u. cleared-at y k (omega arith) u) (λ u. cleared-other y k u ∙ z k u h))
-        (ap length e ∙ length-cleared y)
-        (λ k h. ap (λ v. getD v k 0) e ∙ cleared-other y k (omega arith))
-
-    pub leaves-wiped : w' ≡ cleared (leafCleared y) → Leaves n t false w w'
-    leaves-wiped e = let s = m .size in let l = length-leafCleared y in all-zero
-        (λ k h. ap (λ v. getD v k 0) e ∙ by-lt k 96 (λ u. cleared-at (leafCleared y) k (omega arith) u) (λ u. cleared-other (leafCleared y) k u
-        ∙ by-lt k 128 (λ v. leafCleared-at y k (omega arith) u v) (λ v. leafCleared-other y k (inr v) ∙ m .behind k (omega arith) h)))
-        (ap length e ∙ length-cleared (leafCleared y) ∙ l)
-        (λ k h. ap (λ v. getD v k 0) e ∙ cleared-other (leafCleared y) k (omega arith) ∙ leafCleared-other y k (inr (omega arith)))
 
 -- The turn below: h are the words with value a of d handed down, of which it is lent those from 128 on; it leaves e there, and r is the whole.
 module _ (n d a t : ℕ) (x y h e r : List ℕ) (m : Mid n t x y) (won : Bool) (b : n ≤ 32) (lt : d < n) (room : t ≡ roomOf n d) (fits : t ≤ length x)
@@ -128,13 +159,15 @@ module _ (n d a t : ℕ) (x y h e r : List ℕ) (m : Mid n t x y) (won : Bool) (
   mid-lost f = record {
     size = size-back;
     own = λ k u. low k (omega arith) ∙ m .own k u;
-    behind = λ k u v. by-lt k 128 (λ q. low k q ∙ m .behind k u v) (λ q. let s : k ≡ 128 + (k - 128) = omega arith in ap (λ i. getD r i 0) s ∙ high (k - 128) ∙ left .lost f (k - 128) (omega arith));
+    behind = λ k u v o. ⊎-elim
+        (λ q. low k q ∙ m .behind k u v (inl q))
+        (λ q. let s : k ≡ 128 + (k - 128) = omega arith in ap (λ i. getD r i 0) s ∙ high (k - 128) ∙ left .lost f (k - 128) (omega arith) (omega arith)) o;
     small = λ j u. subst (λ v. v < 16) (sym (low (96 + j) (omega arith))) (m .small j u);
     beyond = far;
   }
 
-  pub blank-lost : won ≡ false → Blank t y → Blank t r
-  blank-lost f z k u v = by-lt k 128 (λ q. low k q ∙ z k u v) (λ q. let s : k ≡ 128 + (k - 128) = omega arith in ap (λ i. getD r i 0) s ∙ high (k - 128) ∙ left .lost f (k - 128) (omega arith))
+  pub leafless-lost : Leafless y → Leafless r
+  leafless-lost z k u v = low k v ∙ z k u v
 
   -- It won, and its leaf is taken up.
   pub mid-won : (r' : List ℕ) → r' ≡ leafTaken r → Mid n t x r'
@@ -143,25 +176,24 @@ module _ (n d a t : ℕ) (x y h e r : List ℕ) (m : Mid n t x y) (won : Bool) (
       record {
         size = ap length q ∙ length-leafTaken r ∙ s;
         own = λ k u. ap (λ v. getD v k 0) q ∙ leafTaken-other r k (inl u) (inl (omega arith)) ∙ low k (omega arith) ∙ m .own k u;
-        behind = λ k u v. ap (λ v. getD v k 0) q ∙ behind k u v;
+        behind = λ k u v o. ap (λ v. getD v k 0) q ∙ ⊎-elim (λ p. in-leaf k u v p) (λ p. in-rest k u v p) o;
         small = λ j u. subst (λ v. v < 16) (sym (ap (λ v. getD v (96 + j) 0) q ∙ leafTaken-at r j (omega arith) (omega arith) ∙ leaf-word j)) (left .small j u);
         beyond = λ k u. ap (λ v. getD v k 0) q ∙ leafTaken-other r k (inr (omega arith)) (inr (omega arith)) ∙ far k u;
       }
     where
-      from : (k : ℕ) → 128 ≤ k → k < t → (k < 224) ⊎ (224 + n ≤ k) → getD r k 0 ≡ 0
-      from k u v o =
-          let s : k ≡ 128 + (k - 128) = omega arith in
-          ap (λ i. getD r i 0) s ∙ high (k - 128) ∙ left .own (k - 128) (omega arith) (⊎-elim (λ p. inl (omega arith)) (λ p. inr (omega arith)) o)
+      from : (k : ℕ) → 224 + n ≤ k → k < t → getD r k 0 ≡ 0
+      from k u v = let s : k ≡ 128 + (k - 128) = omega arith in ap (λ i. getD r i 0) s ∙ high (k - 128) ∙ left .behind (k - 128) (omega arith) (omega arith)
 
-      behind : (k : ℕ) → 96 + n ≤ k → k < t → getD (leafTaken r) k 0 ≡ 0
-      behind k u v =
+      in-leaf : (k : ℕ) → 96 + n ≤ k → k < t → k < 128 → getD (leafTaken r) k 0 ≡ 0
+      in-leaf k u v p =
           let s = size-back in
-          by-lt k 128
-          (λ p. let i : k ≡ 96 + (k - 96) = omega arith in
-          ap (λ i. getD (leafTaken r) i 0) i ∙ leafTaken-at r (k - 96) (omega arith) (omega arith)
-          ∙ from (224 + (k - 96)) (omega arith) (omega arith) (inr (omega arith)))
-          (λ p. by-lt k 224 (λ z. leafTaken-other r k (inr p) (inl z) ∙ from k p v (inl z))
-          (λ z. by-lt k 256 (λ g. leafTaken-below r k (omega arith) z g) (λ g. leafTaken-other r k (inr p) (inr g) ∙ from k p v (inr (omega arith)))))
+          let i : k ≡ 96 + (k - 96) = omega arith in
+          ap (λ i. getD (leafTaken r) i 0) i ∙ leafTaken-at r (k - 96) (omega arith) (omega arith) ∙ from (224 + (k - 96)) (omega arith) (omega arith)
+
+      in-rest : (k : ℕ) → 96 + n ≤ k → k < t → 224 ≤ k → getD (leafTaken r) k 0 ≡ 0
+      in-rest k u v p =
+          let s = size-back in
+          by-lt k 256 (λ g. leafTaken-below r k (omega arith) p g) (λ g. leafTaken-other r k (inr (omega arith)) (inr g) ∙ from k (omega arith) v)
 
   pub leaf-up : (r' : List ℕ) → r' ≡ leafTaken r → leafIn n r' ≡ leafIn n e
   leaf-up r' q =

@@ -1,6 +1,6 @@
 -- What the words of a turn give its rules: some problem, plays in single masks, no variable without a value.
 use mathlib.Core.Path.{_≡_, sym, ap, ap₂, subst, _∙_}
-use mathlib.Core.Bool.{Bool, true}
+use mathlib.Core.Bool.{true}
 use mathlib.Core.List.{List}
 use Prim.Native.Nat.{ℕ, _+_, _-_, _%_, _≤_, _<_}
 use native.Mathlib.Nat.{mod-eq-of-lt}
@@ -27,6 +27,7 @@ use Rattle.forward_rule.specs.Replies.{Nonzero}
 use Rattle.skip_rule.specs.Skip.{LeafSmall, LeafHolds}
 use Rattle.skip_rule.proofs.SkipLaws.{near-above}
 use Rattle.turn_rules.specs.RuledTurn.{Stated, Plays}
+use Rattle.search.specs.declared.Outcome.{Outcome}
 use Rattle.search.specs.TurnReply.{TurnIn, Stands, TurnReplies}
 use Rattle.search.proofs.LastLaws.{played}
 
@@ -87,5 +88,5 @@ module _ (n universal : ℕ) (near index rows : List ℕ) (S c d : ℕ) (w : Lis
   pub last-stands : Stands n universal near index rows S c d w → Stands n universal near index rows S c n w
   last-stands s = subst (λ k. Stands n universal near index rows S c k w) e s
 
-  pub last-replies : (w' : List ℕ) (won : Bool) (q : ℕ) → TurnReplies n universal near index rows S c n w w' won q → TurnReplies n universal near index rows S c d w w' won q
-  last-replies w' won q r = subst (λ k. TurnReplies n universal near index rows S c k w w' won q) (sym e) r
+  pub last-replies : (w' : List ℕ) (o : Outcome) → TurnReplies n universal near index rows S c n w w' o → TurnReplies n universal near index rows S c d w w' o
+  last-replies w' o r = subst (λ k. TurnReplies n universal near index rows S c k w w' o) (sym e) r

@@ -1,18 +1,20 @@
--- What a turn of the search replies and leaves in its room: the verdict is `search` of the game, its leaf stands in the turn's words.
+-- What a turn of the search replies and leaves in its room: whether its rules found a loss and the list that they reached are `reached` of the game;
+-- the verdict is `search` of the game. List and leaf stand in the turn's words.
 use mathlib.Core.Path.{_≡_}
 use mathlib.Core.Bool.{Bool, false, cond}
 use mathlib.Core.List.{List}
-use mathlib.Core.Logic.{_⊎_}
 use Prim.Native.Nat.{ℕ, _+_, _-_, _*_, _≤_, _<_}
 use lib.Dec.{T}
 use lib.ListN.{getD, length}
 use Rattle.game.specs.Problem.{Problem}
 use Rattle.game.specs.Position.{legal}
+use Rattle.game.specs.Turn.{reached}
 use Rattle.game.specs.Search.{Verdict, solved, failed, search}
 use Rattle.theory.proofs.SearchNotions.{TurnOf}
 use Rattle.arrays.specs.Arrays.{States}
 use Rattle.arrays.specs.Words.{listIn, whyIn, leafIn}
 use Rattle.turn_words.specs.TurnSets.{ReasonsBelow}
+use Rattle.search.specs.declared.Outcome.{Outcome}
 
 -- The reply in numbers and words: won with the leaf in the words, or lost with the conflict set.
 unfoldable pub replyIn : ℕ → Bool → ℕ → List ℕ → Verdict
@@ -41,22 +43,24 @@ pub record Stands (n universal : ℕ) (near index rows : List ℕ) (S c d : ℕ)
 abbrev pub Blank : ℕ → List ℕ → Type 0
 Blank t w = (k : ℕ) → 96 ≤ k → k < t → getD w k 0 ≡ 0
 
--- The words w' that a turn with the words w, up to t, leaves: zero but for the n values of a leaf, and these too where it is lost; those beyond
--- as they were.
+-- The words w' that a turn with the words w, up to t, leaves: behind domains and reasons zero but for the n values of a leaf, and these too where
+-- it is lost; those beyond as they were.
 pub record Leaves (n t : ℕ) (won : Bool) (w w' : List ℕ) : Type 0 where
   pub size : length w' ≡ length w
-  pub own : (k : ℕ) → k < t → (k < 96) ⊎ (96 + n ≤ k) → getD w' k 0 ≡ 0
+  pub behind : (k : ℕ) → 96 + n ≤ k → k < t → getD w' k 0 ≡ 0
   pub small : (j : ℕ) → j < n → getD w' (96 + j) 0 < 16
-  pub lost : won ≡ false → (k : ℕ) → k < t → getD w' k 0 ≡ 0
+  pub lost : won ≡ false → (k : ℕ) → 96 ≤ k → k < t → getD w' k 0 ≡ 0
   pub beyond : (k : ℕ) → t ≤ k → getD w' k 0 ≡ getD w k 0
 
--- For every problem that the arrays state and all plays of a turn that the words hold: the reply is that of the game's search.
-abbrev pub Replies : (n universal : ℕ) (near index rows : List ℕ) (S c d : ℕ) (w w' : List ℕ) (won : Bool) (conflict : ℕ) → Type 0
-Replies n universal near index rows S c d w w' won conflict =
-    (P : Problem) → States P n universal near index rows → (p : List ℕ) → TurnIn P n S c d p w
-    → search P S c (n - d) p (listIn n w) (whyIn n w) ≡ replyIn n won conflict w'
+-- Whether the rules of the turn after the plays p find a loss, and the list that they leave in the words w', at a loss as the rule that found it left
+-- the list: "The turn's statement names the list so reached".
+pub record Reaches (P : Problem) (n S c : ℕ) (p w w' : List ℕ) (lost : Bool) : Type 0 where
+  pub loss : lost ≡ reached P S c p (listIn n w) .loss
+  pub list : listIn n w' ≡ reached P S c p (listIn n w) .list
 
--- What a turn replies and leaves.
-abbrev pub TurnReplies : (n universal : ℕ) (near index rows : List ℕ) (S c d : ℕ) (w w' : List ℕ) (won : Bool) (conflict : ℕ) → Type 0
-TurnReplies n universal near index rows S c d w w' won conflict =
-    Replies n universal near index rows S c d w w' won conflict × Leaves n (roomOf n d) won w w'
+-- What a turn replies and leaves, for every problem that the arrays state and all plays of a turn that the words hold.
+pub record TurnReplies (n universal : ℕ) (near index rows : List ℕ) (S c d : ℕ) (w w' : List ℕ) (o : Outcome) : Type 0 where
+  pub reach : (P : Problem) → States P n universal near index rows → (p : List ℕ) → TurnIn P n S c d p w → Reaches P n S c p w w' (o .loss)
+  pub reply : (P : Problem) → States P n universal near index rows → (p : List ℕ) → TurnIn P n S c d p w
+      → search P S c (n - d) p (listIn n w) (whyIn n w) ≡ replyIn n (o .won) (o .conflict) w'
+  pub room : Leaves n (roomOf n d) (o .won) w w'

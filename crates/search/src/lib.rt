@@ -1,5 +1,6 @@
 // The search: two turns, one per side, that call each other until no variable is left. A turn's words are the first 128
-// of the room that it is lent: domains 0..32, reasons 32..96, leaf 96..128; the next turn is lent what is behind them.
+// of the room that it is lent: domains 0..32, reasons 32..96, leaf 96..128; the next turn is lent what is behind them. A
+// turn leaves the list that its rules reached in its words; who lent them zeroes them.
 ghost use mathlib.Core.Path.{_≡_};
 ghost use mathlib.Core.Bool.{true, false, not, _&&_};
 ghost use Prim.Native.Nat.{_≤_, _<_};
@@ -11,7 +12,7 @@ ghost use Rattle.arrays.specs.Arrays.{InRange};
 ghost use Rattle.forward_rule.specs.Replies.{Nonzero};
 ghost use Rattle.skip_rule.specs.Skip.{LeafHolds};
 ghost use Rattle.turn_rules.specs.RuledTurn.{Stated, Settled};
-ghost use Rattle.turn_words.specs.TurnRoom.{cleared, leafCleared, leafTaken};
+ghost use Rattle.turn_words.specs.TurnRoom.{zeroed, leafTaken};
 ghost use Rattle.search.specs.TurnReply.{roomOf, Blank, Stands, TurnReplies};
 ghost use Rattle.search.specs.TurnSteps.{EntersTurn, LeavesUntried};
 use leaf_test::copy_leaf;
@@ -24,21 +25,22 @@ use skip_rule::skippable_values;
 use skip_rule::untried_after;
 use turn_rules::in_use;
 use turn_rules::run_rules;
-use turn_words::clear;
-use turn_words::clear_leaf;
+use turn_words::clear_below;
 use turn_words::hand_down;
 use turn_words::handed;
 use turn_words::start_set;
 use turn_words::take_leaf;
+use turn_words::zero_words;
 
-// What a turn hands up: won, with its leaf in the words; or lost with a conflict set.
+// What a turn hands up: whether its rules found a loss; won, with its leaf in the words, or lost with a conflict set.
 pub struct Outcome {
+    pub loss: bool,
     pub won: bool,
     pub conflict: u32,
 }
 
-// All variables are played: won with the play as leaf, or lost with the first broken constraint. No rule runs here: the
-// reply does not depend on them (theory, `turn-leaf`).
+// All variables are played: won with the play as leaf, or lost with the first broken constraint. Where none is broken the
+// rules change nothing (theory, `turn-leaf-list`), so they run only on a lost leaf.
 pub fn last_turn(
     near: &[u32; 32],
     index: &[u16; 1024],
@@ -50,19 +52,20 @@ pub fn last_turn(
     room: &mut [u16],
 ) -> Outcome
     requires { ⌜ (n ≤ 32) × (128 ≤ length (now room)) × InRange (now index) × Blank 128 (now room) × Stands n universal (now near) (now index) (now rows) set c n (now room) ⌝ }
-    ensures { λ r. ⌜ TurnReplies n universal (now (near .entry)) (now (index .entry)) (now (rows .entry)) set c n (now (room .entry)) (now (room .exit)) (r .won) (r .conflict) ⌝ }
+    ensures { λ r. ⌜ TurnReplies n universal (now (near .entry)) (now (index .entry)) (now (rows .entry)) set c n (now (room .entry)) (now (room .exit)) r ⌝ }
 {
     let broken = first_broken(near, index, rows, n, room);
     if broken == 0 {
         copy_leaf(n, room);
-        clear(room);
         return Outcome {
+            loss: false,
             won: true,
             conflict: 0,
         };
     }
-    clear(room);
+    let s = run_rules(near, index, rows, n, universal, set, c, n, room);
     Outcome {
+        loss: s.loss,
         won: false,
         conflict: handed(in_use(set, 6), n, broken),
     }
@@ -133,38 +136,60 @@ fn jumps(set: u8, d: usize, conflict: u32) -> bool
     }
 }
 
-// A loss handed up: domains and reasons become zero.
-fn lost_with(set: u8, d: usize, conflict: u32, room: &mut [u16]) -> Outcome
-    requires { ⌜ (d ≤ 32) × (128 ≤ length (now room)) ⌝ }
-    ensures { λ r. ⌜ (r .won ≡ false) × (r .conflict ≡ handedUp (uses set 6) d conflict) × (now (room .exit) ≡ cleared (now (room .entry))) ⌝ }
+// A loss that the rules found, handed up.
+fn lost_by_rules(set: u8, d: usize, conflict: u32) -> Outcome
+    requires { ⌜ d ≤ 32 ⌝ }
+    ensures { λ r. ⌜ (r .loss ≡ true) × (r .won ≡ false) × (r .conflict ≡ handedUp (uses set 6) d conflict) ⌝ }
 {
-    clear(room);
     Outcome {
+        loss: true,
         won: false,
         conflict: handed(in_use(set, 6), d, conflict),
     }
 }
 
-// A loss handed up after a leaf was taken up: the leaf becomes zero too.
-fn lost_after(set: u8, d: usize, conflict: u32, room: &mut [u16]) -> Outcome
-    requires { ⌜ (d ≤ 32) × (128 ≤ length (now room)) ⌝ }
-    ensures { λ r. ⌜ (r .won ≡ false) × (r .conflict ≡ handedUp (uses set 6) d conflict) × (now (room .exit) ≡ cleared (leafCleared (now (room .entry)))) ⌝ }
+// A loss of the turns below handed up: the words of the turn below become zero.
+fn lost_below(set: u8, d: usize, conflict: u32, room: &mut [u16]) -> Outcome
+    requires { ⌜ (d ≤ 32) × (224 ≤ length (now room)) ⌝ }
+    ensures { λ r. ⌜ (r .loss ≡ false) × (r .won ≡ false) × (r .conflict ≡ handedUp (uses set 6) d conflict) × (now (room .exit) ≡ zeroed 128 224 (now (room .entry))) ⌝ }
 {
-    clear_leaf(room);
-    lost_with(set, d, conflict, room)
+    clear_below(room);
+    Outcome {
+        loss: false,
+        won: false,
+        conflict: handed(in_use(set, 6), d, conflict),
+    }
+}
+
+// The same after a leaf was taken up: the leaf becomes zero too.
+fn lost_after(set: u8, d: usize, conflict: u32, room: &mut [u16]) -> Outcome
+    requires { ⌜ (d ≤ 32) × (224 ≤ length (now room)) ⌝ }
+    ensures { λ r. ⌜ (r .loss ≡ false) × (r .won ≡ false) × (r .conflict ≡ handedUp (uses set 6) d conflict) × (now (room .exit) ≡ zeroed 128 224 (zeroed 96 128 (now (room .entry)))) ⌝ }
+{
+    zero_words(96, 128, room);
+    lost_below(set, d, conflict, room)
+}
+
+// A win handed up, whose leaf stands in the words.
+fn won_here(room: &mut [u16]) -> Outcome
+    requires { ⌜ 224 ≤ length (now room) ⌝ }
+    ensures { λ r. ⌜ (r .loss ≡ false) × (r .won ≡ true) × (now (room .exit) ≡ zeroed 128 224 (now (room .entry))) ⌝ }
+{
+    clear_below(room);
+    Outcome {
+        loss: false,
+        won: true,
+        conflict: 0,
+    }
 }
 
 // The win of the turn below handed up.
 fn won_below(room: &mut [u16]) -> Outcome
     requires { ⌜ 256 ≤ length (now room) ⌝ }
-    ensures { λ r. ⌜ (r .won ≡ true) × (now (room .exit) ≡ cleared (leafTaken (now (room .entry)))) ⌝ }
+    ensures { λ r. ⌜ (r .loss ≡ false) × (r .won ≡ true) × (now (room .exit) ≡ zeroed 128 224 (leafTaken (now (room .entry)))) ⌝ }
 {
     take_leaf(room);
-    clear(room);
-    Outcome {
-        won: true,
-        conflict: 0,
-    }
+    won_here(room)
 }
 
 // What is left to try of the mask `left` after value a gave the leaf in the words.
@@ -210,37 +235,54 @@ pub fn existential_turn(
     room: &mut [u16],
 ) -> Outcome
     requires { ⌜ (n ≤ 32) × (d < n) × (bit universal d ≡ false) × (roomOf n d ≤ length (now room)) × InRange (now index) × Blank (roomOf n d) (now room) × Stands n universal (now near) (now index) (now rows) set c d (now room) ⌝ }
-    ensures { λ r. ⌜ TurnReplies n universal (now (near .entry)) (now (index .entry)) (now (rows .entry)) set c d (now (room .entry)) (now (room .exit)) (r .won) (r .conflict) ⌝ }
+    ensures { λ r. ⌜ TurnReplies n universal (now (near .entry)) (now (index .entry)) (now (rows .entry)) set c d (now (room .entry)) (now (room .exit)) r ⌝ }
 {
     let e = enter(near, index, rows, n, universal, set, c, d, room);
     if e.lost {
-        return lost_with(set, d, e.conflict, room);
+        return lost_by_rules(set, d, e.conflict);
     }
     let mut j = start_set(near, d, e.narrowed, room);
     let mut left = e.left;
     while left != 0 {
         hand_down(d, lowest(left) as usize, room);
-        let o = turn(
-            near,
-            index,
-            rows,
-            n,
-            universal,
-            set,
-            d,
-            d + 1,
-            &mut room[128..],
-        );
+        let next = d + 1;
+        let o = if next == n {
+            last_turn(near, index, rows, n, universal, set, d, &mut room[128..])
+        } else if contains_32(universal, next) {
+            universal_turn(
+                near,
+                index,
+                rows,
+                n,
+                universal,
+                set,
+                d,
+                next,
+                &mut room[128..],
+            )
+        } else {
+            existential_turn(
+                near,
+                index,
+                rows,
+                n,
+                universal,
+                set,
+                d,
+                next,
+                &mut room[128..],
+            )
+        };
         if o.won {
             return won_below(room);
         }
         if jumps(set, d, o.conflict) {
-            return lost_with(set, d, o.conflict, room);
+            return lost_below(set, d, o.conflict, room);
         }
         j = j | o.conflict;
         left = rest_of(left);
     }
-    lost_with(set, d, j, room)
+    lost_below(set, d, j, room)
 }
 
 // The turn after d plays, whose variable d is universal.
@@ -256,60 +298,49 @@ pub fn universal_turn(
     room: &mut [u16],
 ) -> Outcome
     requires { ⌜ (n ≤ 32) × (d < n) × (bit universal d ≡ true) × (roomOf n d ≤ length (now room)) × InRange (now index) × Blank (roomOf n d) (now room) × Stands n universal (now near) (now index) (now rows) set c d (now room) ⌝ }
-    ensures { λ r. ⌜ TurnReplies n universal (now (near .entry)) (now (index .entry)) (now (rows .entry)) set c d (now (room .entry)) (now (room .exit)) (r .won) (r .conflict) ⌝ }
+    ensures { λ r. ⌜ TurnReplies n universal (now (near .entry)) (now (index .entry)) (now (rows .entry)) set c d (now (room .entry)) (now (room .exit)) r ⌝ }
 {
     let e = enter(near, index, rows, n, universal, set, c, d, room);
     if e.lost {
-        return lost_with(set, d, e.conflict, room);
+        return lost_by_rules(set, d, e.conflict);
     }
     let mut left = e.left;
     while left != 0 {
         let a = lowest(left) as usize;
         hand_down(d, a, room);
-        let o = turn(
-            near,
-            index,
-            rows,
-            n,
-            universal,
-            set,
-            d,
-            d + 1,
-            &mut room[128..],
-        );
+        let next = d + 1;
+        let o = if next == n {
+            last_turn(near, index, rows, n, universal, set, d, &mut room[128..])
+        } else if contains_32(universal, next) {
+            universal_turn(
+                near,
+                index,
+                rows,
+                n,
+                universal,
+                set,
+                d,
+                next,
+                &mut room[128..],
+            )
+        } else {
+            existential_turn(
+                near,
+                index,
+                rows,
+                n,
+                universal,
+                set,
+                d,
+                next,
+                &mut room[128..],
+            )
+        };
         if !o.won {
             return lost_after(set, d, o.conflict, room);
         }
         take_leaf(room);
         left = untried_next(near, index, rows, n, universal, set, d, left, a, room);
     }
-    clear(room);
-    Outcome {
-        won: true,
-        conflict: 0,
-    }
-}
-
-// The turn after d plays.
-pub fn turn(
-    near: &[u32; 32],
-    index: &[u16; 1024],
-    rows: &[u16; 15888],
-    n: usize,
-    universal: u32,
-    set: u8,
-    c: usize,
-    d: usize,
-    room: &mut [u16],
-) -> Outcome
-    requires { ⌜ (n ≤ 32) × (d ≤ n) × (roomOf n d ≤ length (now room)) × InRange (now index) × Blank (roomOf n d) (now room) × Stands n universal (now near) (now index) (now rows) set c d (now room) ⌝ }
-    ensures { λ r. ⌜ TurnReplies n universal (now (near .entry)) (now (index .entry)) (now (rows .entry)) set c d (now (room .entry)) (now (room .exit)) (r .won) (r .conflict) ⌝ }
-{
-    if d == n {
-        return last_turn(near, index, rows, n, universal, set, c, room);
-    }
-    if contains_32(universal, d) {
-        return universal_turn(near, index, rows, n, universal, set, c, d, room);
-    }
-    existential_turn(near, index, rows, n, universal, set, c, d, room)
+    won_here(room)
 }

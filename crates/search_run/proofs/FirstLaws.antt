@@ -1,4 +1,4 @@
--- The words of a run's first turn, and copies of words.
+-- The words of a run's first turn, and runs of words in 32 places.
 use mathlib.Core.Path.{_≡_, refl, sym, ap, ap₂, subst, _∙_}
 use mathlib.Core.Bool.{cond}
 use mathlib.Core.List.{List}
@@ -21,17 +21,15 @@ use Rattle.theory.proofs.SearchNotions.{TurnOf, first}
 use Rattle.arrays.specs.Words.{listIn, whyIn, leafIn, reasonIn, putReason}
 use Rattle.arrays.proofs.WordLaws.{length-putReason}
 use Rattle.forward_rule.proofs.StepLaws.{listOf-same}
-use Rattle.forward_rule.specs.Replies.{Nonzero}
 use Rattle.position.specs.declared.Position.{Position}
 use Rattle.position.specs.Position.{playsOf, fitsIn, Written}
 use Rattle.position.proofs.Fitting.{length-plays, fits-legal}
 use Rattle.position.proofs.Narrowing.{written-list, written-other}
-use Rattle.turn_rules.specs.RuledTurn.{Plays}
 use Rattle.turn_words.specs.TurnRoom.{withRun}
-use Rattle.turn_words.proofs.RoomLaws.{length-run, run-at, run-other, run-none, run-next}
+use Rattle.turn_words.proofs.RoomLaws.{length-run, run-at, run-other, run-next}
 use Rattle.turn_words.proofs.ReasonBounds.{Below, below-in, below-out, first-below}
 use Rattle.search.specs.TurnReply.{TurnIn}
-use Rattle.search_run.specs.FirstTurn.{ZeroBelow, filled, wordsFrom, ownReasons, turnCopy, FirstWords}
+use Rattle.search_run.specs.FirstTurn.{ZeroBelow, filled, wordsFrom, ownReasons, FirstWords}
 use Rattle.search_run.specs.Run.{Poses}
 
 -- Reasons put --------------------------------------------------------------------------------------------------------------------
@@ -150,7 +148,7 @@ module _ (P : Problem) (n universal : ℕ) (near index rows masks : List ℕ) (o
     reasons = below-out n x (subst (Below n) (sym (f .why)) (first-below n (p .plays)));
   }
 
--- Copies -------------------------------------------------------------------------------------------------------------------------
+-- Runs of words -------------------------------------------------------------------------------------------------------------------------
 -- One word more.
 pub run-more : (k : ℕ) (f : ℕ → ℕ) (w x : List ℕ) (v : ℕ) → k < length w → x ≡ withRun 0 k f w → v ≡ f k → set x k v ≡ withRun 0 (k + 1) f w
 run-more k f w x v h e q = ap (λ y. set y k v) e ∙ run-next 0 k f w v (omega arith) h q
@@ -178,43 +176,3 @@ words-list n w = listOf-same n _ _ λ j h. let e : 0 + j ≡ j = omega arith in 
 pub words-leaf : (n : ℕ) (w : List ℕ) → wordsFrom 96 n w ≡ leafIn n w
 unfolding wordsFrom leafIn
 words-leaf n w = refl
-
-pub copy-none : (w : List ℕ) → turnCopy 0 w ≡ replicate 128 0
-unfolding turnCopy
-copy-none w = run-none 0 _ (replicate 128 0)
-
-pub copy-more : (k : ℕ) (w x : List ℕ) (v : ℕ) → k < 128 → x ≡ turnCopy k w → v ≡ getD w k 0 → set x k v ≡ turnCopy (k + 1) w
-unfolding turnCopy
-copy-more k w x v h e q = let a = length-replicate {A = ℕ} 128 0 in run-more k (λ k. getD w k 0) (replicate 128 0) x v (omega arith) e q
-
-copy-at : (w : List ℕ) (k : ℕ) → k < 96 → getD (turnCopy 96 w) k 0 ≡ getD w k 0
-unfolding turnCopy
-copy-at w k h = let a = length-replicate {A = ℕ} 128 0 in run-at 0 96 (λ k. getD w k 0) (replicate 128 0) k (omega arith) h (omega arith)
-
--- The copy holds what the words hold.
-module _ (n : ℕ) (m : n ≤ 32) (w x : List ℕ) (e : x ≡ turnCopy 96 w) where
-  same-word : (k : ℕ) → k < 96 → getD x k 0 ≡ getD w k 0
-  same-word k h = ap (λ y. getD y k 0) e ∙ copy-at w k h
-
-  pub copy-list : listIn n x ≡ listIn n w
-  copy-list = list-same n x w (λ k h. same-word k (omega arith))
-
-  copy-why : whyIn n x ≡ whyIn n w
-  copy-why = why-same n x w m same-word
-
-  pub copy-nonzero : Nonzero n w → Nonzero n x
-  copy-nonzero f j h z = f j h (sym (same-word j (omega arith)) ∙ z)
-
-  module _ (P : Problem) (S c d : ℕ) (p : List ℕ) where
-    pub copy-plays : d ≤ n → Plays c d p w → Plays c d p x
-    copy-plays l q = record { count = q .count; value = q .value; word = λ j a b. same-word j (omega arith) ∙ q .word j a b }
-
-    pub copy-turn : TurnIn P n S c d p w → TurnIn P n S c d p x
-    copy-turn t = record {
-      plays = t .plays;
-      legal-start = t .legal-start;
-      turn = subst (λ (l : List ℕ). TurnOf P S (t .plays) c p l (whyIn n x)) (sym copy-list)
-          (subst (λ (R : List ℕ). TurnOf P S (t .plays) c p (listIn n w) R) (sym copy-why) (t .turn));
-      count = t .count;
-      reasons = below-out n x (subst (Below n) (sym copy-why) (below-in n w (t .reasons)));
-    }

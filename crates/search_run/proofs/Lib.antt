@@ -1,6 +1,4 @@
--- The words of a run's first turn, and copies of words.
+-- The words of a run's first turn, and runs of words in 32 places.
 pub mod FirstLaws
--- What the rules of the first turn reach.
-pub mod ReachLaws
 -- A run's outcome, and its room.
 pub mod RunLaws

@@ -2,7 +2,7 @@
 use mathlib.Core.Path.{_≡_, refl, sym, ap, ap₂, _∙_}
 use mathlib.Core.Bool.{Bool, true, false, cond}
 use mathlib.Core.List.{List, []}
-use mathlib.Core.Logic.{inl, inr}
+use mathlib.Core.Logic.{inr}
 use Prim.Native.Nat.{ℕ, _+_, _-_, _*_, _≤_, _<_}
 use native.Mathlib.Omega.{arith}
 use lib.Dec.{T}
@@ -15,36 +15,27 @@ use Rattle.game.specs.Problem.{Problem}
 use Rattle.game.specs.Lists.{listOf}
 use Rattle.game.specs.Turn.{firstList, reached}
 use Rattle.game.specs.Reasons.{firstReasons}
-use Rattle.game.specs.Search.{solved, failed, search, searchFrom}
+use Rattle.game.specs.Search.{solved, failed, is-solved, search, searchFrom}
 use Rattle.theory.proofs.Lists.{length-listOf, getD-listOf}
-use Rattle.arrays.specs.Words.{leafIn}
+use Rattle.arrays.specs.Words.{listIn, leafIn}
 use Rattle.arrays.proofs.WordLaws.{length-leafIn, getD-leafIn}
 use Rattle.forward_rule.proofs.StepLaws.{listOf-same}
 use Rattle.position.specs.declared.Position.{Position}
 use Rattle.position.specs.Position.{playsOf, fitsIn}
-use Rattle.turn_words.specs.TurnRoom.{zeroed, leafCleared}
-use Rattle.turn_words.proofs.RoomLaws.{length-zeroed, length-leafCleared, leafCleared-at, leafCleared-other, run-at}
+use Rattle.turn_words.specs.TurnRoom.{zeroed}
+use Rattle.turn_words.proofs.RoomLaws.{length-zeroed, zeroed-at, zeroed-other}
+use Rattle.search.specs.declared.Outcome.{Outcome}
 use Rattle.search.specs.TurnReply.{replyIn, roomOf, Stands, Blank, Leaves, TurnReplies}
 use Rattle.search_run.specs.declared.Ran.{Ran}
-use Rattle.search_run.specs.FirstTurn.{ZeroBelow, filled, FirstWords, FirstReached}
-use Rattle.search_run.specs.Run.{roomNeeded, Poses, Posed, leafShown, Finds}
+use Rattle.search_run.specs.FirstTurn.{ZeroBelow, filled, FirstWords}
+use Rattle.search_run.specs.Run.{roomNeeded, Poses, Posed, leafShown, conflictShown, Finds}
 use Rattle.search_run.proofs.FirstLaws.{plays-count, first-list, first-why, first-in}
 
--- 32 places hold a list of n back.
-take-filled : (n : ℕ) (l : List ℕ) → n ≤ 32 → length l ≡ n → take n (filled l) ≡ l
-unfolding filled
-take-filled n l m e =
-    let f = listOf 32 (λ j. getD l j 0) in
-    let s = length-listOf 32 (λ j. getD l j 0) in
-    let t = length-take n f in
-    let u : length (take n f) ≡ n = t ∙ omega arith in
-    ext-getD 0 (take n f) l (u ∙ sym e) λ j h. getD-take n f j 0 (omega arith) ∙ getD-listOf 32 (λ j. getD l j 0) j (omega arith)
-
 -- A leaf of zeros.
-no-leaf : (n : ℕ) (w : List ℕ) → ((k : ℕ) → k < 128 → getD w k 0 ≡ 0) → n ≤ 32 → filled (leafIn n w) ≡ filled []
+no-leaf : (n : ℕ) (w : List ℕ) → ((k : ℕ) → 96 ≤ k → k < 128 → getD w k 0 ≡ 0) → n ≤ 32 → filled (leafIn n w) ≡ filled []
 unfolding filled
 no-leaf n w z m = listOf-same 32 _ _ λ j h. by-lt j n
-    (λ u. getD-leafIn n w j u ∙ z (96 + j) (omega arith))
+    (λ u. getD-leafIn n w j u ∙ z (96 + j) (omega arith) (omega arith))
     (λ u. let e = length-leafIn n w in List·getD-eq-default (leafIn n w) 0 (omega arith))
 
 -- What the first turn's words give to the turn: the first words w become x.
@@ -59,51 +50,57 @@ module _ (n universal : ℕ) (near index rows masks : List ℕ) (S : ℕ) (p : P
   }
 
   -- What the run finds, where the turn leaves the words y.
-  module _ (y : List ℕ) (r : Ran) (reach : FirstReached n universal near index rows S (p .plays) x (r .lost) (r .list))
-      (t : TurnReplies n universal near index rows S 0 (p .plays) x y (r .won) (r .conflict)) (leaf : r .leaf ≡ filled (leafIn n y))
-      (h : p .plays ≤ n) where
-    shown : (b : Bool) → r .won ≡ b → r .leaf ≡ leafShown (cond b (solved (leafIn n y)) (failed (r .conflict)))
+  module _ (y : List ℕ) (o : Outcome) (t : TurnReplies n universal near index rows S 0 (p .plays) x y o) (r : Ran) (loss : r .loss ≡ o .loss) (won : r .won ≡ o .won)
+      (list : r .list ≡ filled (listIn n y)) (leaf : r .leaf ≡ filled (leafIn n y)) (conflict : r .conflict ≡ cond (o .won) 0 (o .conflict)) (h : p .plays ≤ n) where
+    shown : (b : Bool) → o .won ≡ b → filled (leafIn n y) ≡ leafShown (cond b (solved (leafIn n y)) (failed (o .conflict)))
     unfolding leafShown
-    shown true e = leaf
-    shown false e = leaf ∙ no-leaf n y (λ k u. t .1 .lost e k (omega arith)) m
+    shown true e = refl
+    shown false e = no-leaf n y (λ k l u. t .room .lost e k l (omega arith)) m
 
-    module _ (P : Problem) (o : Poses P n universal near index rows masks) where
-      verdict : searchFrom P S (playsOf p) ≡ cond (r .won) (solved (leafIn n y)) (failed (r .conflict))
+    told : (b : Bool) → cond b 0 (o .conflict) ≡ conflictShown (cond b (solved (leafIn n y)) (failed (o .conflict)))
+    unfolding conflictShown
+    told true = refl
+    told false = refl
+
+    solved-is : (b : Bool) → b ≡ is-solved (cond b (solved (leafIn n y)) (failed (o .conflict)))
+    solved-is true = refl
+    solved-is false = refl
+
+    module _ (P : Problem) (q : Poses P n universal near index rows masks) where
+      verdict : searchFrom P S (playsOf p) ≡ cond (o .won) (solved (leafIn n y)) (failed (o .conflict))
       unfolding searchFrom replyIn
       verdict =
-          let c = plays-count P n universal near index rows masks o S p m long fits w x f in
-          let e : P .n - length (playsOf p) ≡ n - p .plays = ap₂ (λ (a b : ℕ). a - b) (o .states .size) c in
+          let c = plays-count P n universal near index rows masks q S p m long fits w x f in
+          let e : P .n - length (playsOf p) ≡ n - p .plays = ap₂ (λ (a b : ℕ). a - b) (q .states .size) c in
           ap (λ k. search P S 0 k (playsOf p) (firstList P (playsOf p)) (firstReasons (P .n) (length (playsOf p)))) e
           ∙ ap₂ (λ (l R : List ℕ). search P S 0 (n - p .plays) (playsOf p) l R)
-          (sym (first-list P n universal near index rows masks o S p m long fits w x f)) (sym (first-why P n universal near index rows masks o S p m long fits w x f))
-          ∙ t .0 P (o .states) (playsOf p) (first-in P n universal near index rows masks o S p m long fits w x f)
+          (sym (first-list P n universal near index rows masks q S p m long fits w x f)) (sym (first-why P n universal near index rows masks q S p m long fits w x f))
+          ∙ t .reply P (q .states) (playsOf p) (first-in P n universal near index rows masks q S p m long fits w x f)
 
       pub run-finds : Finds P n S p r
       run-finds =
-          let q = reach P (o .states) (playsOf p) (first-in P n universal near index rows masks o S p m long fits w x f) in
-          let l = first-list P n universal near index rows masks o S p m long fits w x f in
+          let a = t .reach P (q .states) (playsOf p) (first-in P n universal near index rows masks q S p m long fits w x f) in
+          let l = first-list P n universal near index rows masks q S p m long fits w x f in
           record {
-            loss = q .0 ∙ ap (λ (l : List ℕ). reached P S 0 (playsOf p) l .loss) l;
-            list = q .1 ∙ ap (λ (l : List ℕ). filled (reached P S 0 (playsOf p) l .list)) l;
-            outcome = verdict ∙ ap (λ (q : List ℕ). cond (r .won) (solved q) (failed (r .conflict))) (sym (ap (take n) leaf ∙ take-filled n (leafIn n y) m (length-leafIn n y)));
-            leaf = shown (r .won) refl ∙ sym (ap leafShown verdict);
+            loss = loss ∙ a .loss ∙ ap (λ (l : List ℕ). reached P S 0 (playsOf p) l .loss) l;
+            list = list ∙ ap filled (a .list ∙ ap (λ (l : List ℕ). reached P S 0 (playsOf p) l .list) l);
+            won = won ∙ solved-is (o .won) ∙ sym (ap is-solved verdict);
+            conflict = conflict ∙ told (o .won) ∙ sym (ap conflictShown verdict);
+            leaf = leaf ∙ shown (o .won) refl ∙ sym (ap leafShown verdict);
           }
 
--- The room: blank before the turn, and as it was after it, since the turn and the clearing of its leaf leave zeros.
+-- The room: blank before the turn, and as it was after it, since the turn leaves zeros behind its own words and these are cleared.
 module _ (p : Position) (n : ℕ) (masks w x : List ℕ) (f : FirstWords p n masks w x) (z : ZeroBelow (roomOf n (p .plays)) w) where
   pub first-blank : Blank (roomOf n (p .plays)) x
   first-blank k a b = f .behind k a ∙ z k b
 
-  pub room-kept : (y v : List ℕ) (won : Bool) → Leaves n (roomOf n (p .plays)) won x y → v ≡ zeroed 96 128 y → roomOf n (p .plays) ≤ length w → p .plays ≤ n → n ≤ 32 → v ≡ w
-  unfolding leafCleared
+  pub room-kept : (y v : List ℕ) (won : Bool) → Leaves n (roomOf n (p .plays)) won x y → v ≡ zeroed 0 128 y → roomOf n (p .plays) ≤ length w → p .plays ≤ n → n ≤ 32 → v ≡ w
   room-kept y v won t e b h m =
       let s = t .size in
       let g = f .size in
-      ext-getD 0 v w (ap length e ∙ length-leafCleared y ∙ s ∙ g) λ k l. ap (λ (u : List ℕ). getD u k 0) e ∙ by-lt k (roomOf n (p .plays))
-      (λ u. by-lt k 96
-      (λ i. leafCleared-other y k (inl i) ∙ t .own k u (inl i))
-      (λ i. by-lt k 128 (λ j. leafCleared-at y k (omega arith) i j) (λ j. leafCleared-other y k (inr j) ∙ t .own k u (inr (omega arith)))) ∙ sym (z k u))
-      (λ u. leafCleared-other y k (inr (omega arith)) ∙ t .beyond k u ∙ f .behind k (omega arith))
+      ext-getD 0 v w (ap length e ∙ length-zeroed 0 128 y ∙ s ∙ g) λ k l. ap (λ (u : List ℕ). getD u k 0) e ∙ by-lt k (roomOf n (p .plays))
+      (λ u. by-lt k 128 (λ i. zeroed-at 0 128 y k (omega arith) i (omega arith)) (λ i. zeroed-other 0 128 y k (inr i) ∙ t .behind k (omega arith) u) ∙ sym (z k u))
+      (λ u. zeroed-other 0 128 y k (inr (omega arith)) ∙ t .beyond k u ∙ f .behind k (omega arith))
 
 -- The cleared room x, from the first turn on: the part that is lent, and the whole when it is back as it was.
 module _ (n d : ℕ) (w x : List ℕ) (t : ℕ) (h : d ≤ n) (q : t ≡ roomNeeded n) (b : roomNeeded n ≤ length w) (e : x ≡ zeroed 0 t w) where
@@ -117,10 +114,9 @@ module _ (n d : ℕ) (w x : List ℕ) (t : ℕ) (h : d ≤ n) (q : t ≡ roomNee
   part-size = let s = room-size in let l = ap length (part-to-end x (128 * d)) ∙ length-drop (128 * d) x in omega arith
 
   pub part-zero : ZeroBelow (roomOf n d) (take (length x - 128 * d) (drop (128 * d) x))
-  unfolding zeroed
   part-zero k u =
       ap (λ (y : List ℕ). getD y k 0) (part-to-end x (128 * d)) ∙ getD-drop (128 * d) x k 0 ∙ ap (λ (y : List ℕ). getD y (128 * d + k) 0) e
-      ∙ run-at 0 t (λ k. 0) w (128 * d + k) (omega arith) (omega arith) (omega arith)
+      ∙ zeroed-at 0 t w (128 * d + k) (omega arith) (omega arith) (omega arith)
 
   pub room-back : (y : List ℕ) → y ≡ take (length x - 128 * d) (drop (128 * d) x) → putMid (128 * d) (length x - 128 * d) x y ≡ zeroed 0 (roomNeeded n) w
   room-back y g = ap (putMid (128 * d) (length x - 128 * d) x) g ∙ put-same (128 * d) (length x - 128 * d) x ∙ e ∙ ap (λ t. zeroed 0 t w) q

@@ -1,12 +1,11 @@
 -- What a run of the search from a position finds.
 use mathlib.Core.Path.{_≡_}
-use mathlib.Core.Bool.{cond}
 use mathlib.Core.List.{List, []}
 use Prim.Native.Nat.{ℕ, _+_, _*_}
 use lib.ListN.{take}
 use Rattle.game.specs.Problem.{Problem}
 use Rattle.game.specs.Turn.{firstList, reached}
-use Rattle.game.specs.Search.{Verdict, solved, failed, searchFrom}
+use Rattle.game.specs.Search.{Verdict, solved, failed, is-solved, searchFrom}
 use Rattle.arrays.specs.Arrays.{States}
 use Rattle.position.specs.declared.Position.{Position}
 use Rattle.position.specs.Position.{playsOf}
@@ -32,12 +31,18 @@ unfoldable pub leafShown : Verdict → List ℕ
 leafShown (solved q) = filled q
 leafShown (failed S) = filled []
 
+-- Its conflict set; none where it is won.
+unfoldable pub conflictShown : Verdict → ℕ
+conflictShown (solved q) = 0
+conflictShown (failed S) = S
+
 -- What the run r under S from the position p finds in P: whether the rules of the first turn find a loss, and the list that they reach, at a loss as
--- the rule that found it left the list; the verdict of the search, with its leaf or its conflict set; the leaf, with zeros elsewhere.
+-- the rule that found it left the list; whether the search is won, its conflict set where it is lost, its leaf where it is won.
 pub record Finds (P : Problem) (n S : ℕ) (p : Position) (r : Ran) : Type 0 where
-  pub loss : r .lost ≡ reached P S 0 (playsOf p) (firstList P (playsOf p)) .loss
+  pub loss : r .loss ≡ reached P S 0 (playsOf p) (firstList P (playsOf p)) .loss
   pub list : r .list ≡ filled (reached P S 0 (playsOf p) (firstList P (playsOf p)) .list)
-  pub outcome : searchFrom P S (playsOf p) ≡ cond (r .won) (solved (take n (r .leaf))) (failed (r .conflict))
+  pub won : r .won ≡ is-solved (searchFrom P S (playsOf p))
+  pub conflict : r .conflict ≡ conflictShown (searchFrom P S (playsOf p))
   pub leaf : r .leaf ≡ leafShown (searchFrom P S (playsOf p))
 
 -- In every problem that the arrays state, over the first n masks.

@@ -1,6 +1,7 @@
 // One inner run: the search from a position, with the list that the rules of its first turn reach. Every public function is
 // for the crates above.
 ghost use mathlib.Core.Path.{_≡_};
+ghost use mathlib.Core.Bool.{cond};
 ghost use Prim.Native.Nat.{_≤_};
 ghost use lib.Dec.{T};
 ghost use lib.ListN.{length};
@@ -13,16 +14,17 @@ ghost use Rattle.search_run.specs.Run.{roomNeeded, Posed, Runs};
 
 mod first;
 
-use first::first_reached;
+use first::first_turn;
 use first::first_words;
 use first::leaf_of;
+use first::list_of;
 use position::Position;
-use search::turn;
+use search::Outcome;
 use turn_words::zero_words;
 
 // What a search from a position comes to: what the rules of the first turn reached, and the outcome.
 pub struct Ran {
-    pub lost: bool,
+    pub loss: bool,
     pub list: [u16; 32],
     pub won: bool,
     pub conflict: u32,
@@ -35,6 +37,13 @@ pub fn room_needed(n: usize) -> usize
     ensures { λ r. ⌜ r ≡ roomNeeded n ⌝ }
 {
     128 * (n + 1)
+}
+
+// The conflict set of a turn; none where it is won.
+fn conflict_of(o: Outcome) -> u32
+    ensures { λ r. ⌜ r ≡ cond (o .won) 0 (o .conflict) ⌝ }
+{
+    if o.won { 0 } else { o.conflict }
 }
 
 // The search from the position p in the room of its first turn, whose words are zero before and afterwards.
@@ -54,16 +63,16 @@ fn run_in(
 {
     let d = p.plays;
     first_words(p, n, domains, room);
-    let r = first_reached(near, index, rows, n, universal, set, d, room);
-    let o = turn(near, index, rows, n, universal, set, 0, d, room);
+    let o = first_turn(near, index, rows, n, universal, set, d, room);
+    let list = list_of(n, room);
     let leaf = leaf_of(n, room);
-    zero_words(96, 128, room);
-    let list = r.list;
+    zero_words(0, 128, room);
+    let conflict = conflict_of(o);
     Ran {
-        lost: r.lost,
+        loss: o.loss,
         list: list,
         won: o.won,
-        conflict: o.conflict,
+        conflict: conflict,
         leaf: leaf,
     }
 }

@@ -235,6 +235,13 @@ module _ (P : Problem) where
     pub turn-reaches : i < n → reached P S c p l .loss ≡ false → narrowNext P S i (explained P S c p l R .list) .list ≡ list
     turn-reaches h e = sym (Turns.entry-list P S c p l R (on .checked) (on .entry) h e)
 
+    -- At a loss the list is as the rule that found it left it; where all are played no rule narrows.
+    pub turn-lost-list : reached P S c p l .loss ≡ true → explained P S c p l R .list ≡ list
+    turn-lost-list e = sym (Turns.lost-list P S c p l R (on .checked) (on .entry) (turn-loss ∙ e))
+
+    pub turn-end-list : i ≡ n → explained P S c p l R .list ≡ list
+    turn-end-list e = sym (Turns.end-list P S c p l R (on .checked) (on .entry) e)
+
     -- Rule 6. "Every position of the same depth that has the same options at these choices is lost too."
     pub turn-conflict : (U : ℕ) → answer ≡ failed U
         → (q : List ℕ) → T (legal P q) → length q ≡ i → ((j : ℕ) → j < i → T (bit U j) → getD q j 0 ≡ getD p j 0) → verdict P q ≡ false
@@ -250,6 +257,13 @@ module _ (P : Problem) where
     -- "A lost leaf carries the two choices of its first broken table", whatever rule found the loss; where none is broken the leaf is won.
     pub turn-leaf : i ≡ n → search P S c 0 p l R ≡ cond (satisfied compatible n (playOf p)) (solved p) (failed (handed (uses S 6) n (firstBroken P p)))
     turn-leaf e = Turns.answer-end P S c p l R e on
+
+    -- Where none is broken the rules find no loss and change nothing.
+    pub turn-leaf-list : i ≡ n → T (satisfied compatible n (playOf p)) → (reached P S c p l .loss ≡ false) × (list ≡ l)
+    turn-leaf-list e t =
+        let calm = sym turn-loss ∙ Turns.leaf-calm P S c p l R e on t in
+        let a = turn-position .1 in
+        (calm, Turns.played-same P p list l e (TurnLists.turn-list P S c p l a (on .checked) calm) a)
 
     -- "A shift's choice outside the set of an option's loss tries no further option and is lost with that set": value a is the first of the
     -- list whose loss does not name the turn's variable.

@@ -7,6 +7,7 @@ use native.Mathlib.Omega.{arith}
 use lib.Dec.{T}
 use lib.Bits.{bitOr}
 use lib.ListN.{getD, length}
+use lib.Seq.{ext-getD}
 use Rattle.mask.specs.Mask.{bit, maskOf}
 use Rattle.mask.proofs.Logic.{holds, fails, clash, by-eq, by-lt, or-left}
 use Rattle.mask.proofs.Bits.{bit-high, bit-ext}
@@ -20,12 +21,12 @@ use Rattle.game.specs.Rule.{uses}
 use Rattle.game.specs.Turn.{firstList, nextList, reached}
 use Rattle.game.specs.Arc.{arcLoss, arc}
 use Rattle.game.specs.Reasons.{choose, explainChecks, Step, Sheet, arcConflict, firstReasons, nextReasons, explained}
-use Rattle.game.specs.Search.{Verdict, solved, failed, is-solved, or-else, handed, handUp, someValue, eachValue, firstBroken, skippable, narrowNext, startSet, search}
+use Rattle.game.specs.Search.{Verdict, solved, failed, is-solved, or-else, handed, handUp, someValue, eachValue, firstBroken, leaf, skippable, narrowNext, startSet, search}
 use Rattle.theory.proofs.Transfer.{In}
 use Rattle.theory.proofs.Swap.{start}
 use Rattle.theory.proofs.Laws.{at, start-at}
 use Rattle.theory.proofs.Sound.{Sound}
-use Rattle.theory.proofs.Lists.{domains-boxed, over-start}
+use Rattle.theory.proofs.Lists.{domains-boxed, over-start, lent-out}
 use Rattle.theory.proofs.Notions.{AtTurn, NoneDead}
 use Rattle.theory.proofs.TurnLists
 use Rattle.theory.proofs.TurnLists.{legal-in, snoc-length}
@@ -60,6 +61,18 @@ module _ (P : Problem) where
     entry-list h e =
         let q : reached P S c p l ≡ narrowNext P S (length p) (explained P S c p l R .list) =
         rw (sym entry-loss ∙ e) at (Plain.reached-plain P (F P) (foe P) (foe-in P) S c p l R lc h (w .ready)) in ap {B = List ℕ} (λ r. r .list) q
+
+    -- Where all are played, and where a rule found a loss and left the list so.
+    pub end-list : length p ≡ n → reached P S c p l .list ≡ explained P S c p l R .list
+    end-list h = ap {B = List ℕ} (λ r. r .list) (Plain.reached-end P (F P) (foe P) (foe-in P) S c p l R lc h (w .ready))
+
+    pub lost-list : explained P S c p l R .loss ≡ true → reached P S c p l .list ≡ explained P S c p l R .list
+    lost-list e = by-lt (length p) n
+        (λ h. let q : reached P S c p l ≡ ruled (explained P S c p l R) =
+        Plain.reached-plain P (F P) (foe P) (foe-in P) S c p l R lc h (w .ready)
+        ∙ ap (λ (b : Bool). cond b (ruled (explained P S c p l R)) (narrowNext P S (length p) (explained P S c p l R .list))) e in
+        ap {B = List ℕ} (λ r. r .list) q)
+        (λ h. let d = w .depth in end-list (omega arith))
 
   -- What holds at the entry of every turn of a search ------------------------------------------------------------------------
   pub record At (c : ℕ) (p l R : List ℕ) : Type 0 where
@@ -188,6 +201,23 @@ module _ (P : Problem) where
       go : (b : Bool) → handUp (uses S 6) n (cond b (solved p) (failed (firstBroken P p))) ≡ cond b (solved p) (failed (handed (uses S 6) n (firstBroken P p)))
       go true = refl
       go false = refl
+
+  -- In a leaf that breaks no constraint the rules find no loss.
+  pub leaf-calm : (S c : ℕ) (p l R : List ℕ) → length p ≡ n → At c p l R → T (satisfied compatible n (playOf p)) → explained P S c p l R .loss ≡ false
+  unfolding search leaf handUp
+  leaf-calm S c p l R z w = go (explained P S c p l R .loss) (satisfied compatible n (playOf p)) (ap is-solved (answer-end S c p l R z w))
+    where
+      go : (b s : Bool) → is-solved (handUp (uses S 6) (length p) (cond (not b && s) (solved p) (failed (firstBroken P p))))
+          ≡ is-solved (cond s (solved p) (failed (handed (uses S 6) n (firstBroken P p)))) → T s → b ≡ false
+      go false s e t = refl
+      go true true e t = absurd (subst (λ b. T b) (sym e) tt)
+
+  -- Two lists of a turn in which all are played are the same.
+  pub played-same : (p l m : List ℕ) → length p ≡ n → AtTurn P p l → AtTurn P p m → l ≡ m
+  played-same p l m z a b =
+      let e = lent-out P l (a .may) .masks .size in
+      let f = lent-out P m (b .may) .masks .size in
+      ext-getD 0 l m (e ∙ sym f) λ j h. a .played j (omega arith) ∙ sym (b .played j (omega arith))
 
   -- Rule 6: where it jumps ---------------------------------------------------------------------------------------------------
   -- A child's set that lacks i is handed up as it is.

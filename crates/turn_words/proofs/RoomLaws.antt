@@ -11,7 +11,7 @@ use lib.Seq.{ext-getD, getD-set-same, getD-set-other, getD-take, getD-drop}
 use borrow.Author.Tests.{lt-ltb, le-ltb, le-leb, lt-leb}
 use Rattle.mask.proofs.Logic.{by-eq, by-lt}
 use Rattle.theory.proofs.Lists.{length-listOf, getD-listOf, getD-beyond}
-use Rattle.turn_words.specs.TurnRoom.{withRun, zeroed, copied, Apart, cleared, leafCleared, leafTaken}
+use Rattle.turn_words.specs.TurnRoom.{withRun, zeroed, copied, Apart, leafTaken}
 
 -- A run of words put in: its length, its words, the other words --------------------------------------------------
 module _ (s t : ℕ) (f : ℕ → ℕ) (w : List ℕ) where
@@ -73,6 +73,14 @@ pub length-zeroed : (s t : ℕ) (w : List ℕ) → length (zeroed s t w) ≡ len
 unfolding zeroed
 length-zeroed s t w = length-run s t _ w
 
+pub zeroed-at : (s t : ℕ) (w : List ℕ) (k : ℕ) → s ≤ k → k < t → k < length w → getD (zeroed s t w) k 0 ≡ 0
+unfolding zeroed
+zeroed-at s t w k p q h = run-at s t (λ k. 0) w k p q h
+
+pub zeroed-other : (s t : ℕ) (w : List ℕ) (k : ℕ) → (k < s) ⊎ (t ≤ k) → getD (zeroed s t w) k 0 ≡ getD w k 0
+unfolding zeroed
+zeroed-other s t w k o = run-other s t (λ k. 0) w k o
+
 pub zeroed-none : (s : ℕ) (w : List ℕ) → zeroed s s w ≡ w
 unfolding zeroed
 zeroed-none s w = run-none s _ w
@@ -117,30 +125,6 @@ copied-next s t v k w x u o h b e q =
     ap (λ y. set y (t + k) u) e ∙ copied-more s t k w u (omega arith) r
 
 -- What the search needs of each step: length, the words that change, the words that stay --------------------------
-pub length-cleared : (w : List ℕ) → length (cleared w) ≡ length w
-unfolding cleared
-length-cleared w = length-zeroed 0 96 w
-
-pub cleared-at : (w : List ℕ) (k : ℕ) → 96 ≤ length w → k < 96 → getD (cleared w) k 0 ≡ 0
-unfolding cleared zeroed
-cleared-at w k b h = run-at 0 96 (λ k. 0) w k (omega arith) h (omega arith)
-
-pub cleared-behind : (w : List ℕ) → drop 96 (cleared w) ≡ drop 96 w
-unfolding cleared zeroed
-cleared-behind w = run-behind 0 96 (λ k. 0) w 96 (omega arith)
-
-pub length-leafCleared : (w : List ℕ) → length (leafCleared w) ≡ length w
-unfolding leafCleared
-length-leafCleared w = length-zeroed 96 128 w
-
-pub leafCleared-at : (w : List ℕ) (k : ℕ) → 128 ≤ length w → 96 ≤ k → k < 128 → getD (leafCleared w) k 0 ≡ 0
-unfolding leafCleared zeroed
-leafCleared-at w k b p q = run-at 96 128 (λ k. 0) w k p q (omega arith)
-
-pub leafCleared-other : (w : List ℕ) (k : ℕ) → (k < 96) ⊎ (128 ≤ k) → getD (leafCleared w) k 0 ≡ getD w k 0
-unfolding leafCleared zeroed
-leafCleared-other w k o = run-other 96 128 (λ k. 0) w k o
-
 pub length-leafTaken : (w : List ℕ) → length (leafTaken w) ≡ length w
 unfolding leafTaken
 length-leafTaken w = length-zeroed 224 256 (copied 224 96 32 w) ∙ length-copied 224 96 32 w

@@ -23,13 +23,6 @@ copied s t v w = withRun t (t + v) (λ k. getD w (s + (k - t)) 0) w
 abbrev pub Apart : ℕ → ℕ → ℕ → Type 0
 Apart s t v = (s + v ≤ t) ⊎ (t + v ≤ s)
 
--- Domains and reasons zero; the leaf zero.
-unfoldable pub cleared : List ℕ → List ℕ
-cleared w = zeroed 0 96 w
-
-unfoldable pub leafCleared : List ℕ → List ℕ
-leafCleared w = zeroed 96 128 w
-
 -- The words w with value a of variable d played: the domain of d narrowed to a, and d its own reason.
 unfoldable pub withPlay : ℕ → ℕ → List ℕ → List ℕ
 withPlay d a w = putReason (set w d (2 ^ a)) d (2 ^ d)

@@ -3,8 +3,7 @@
 mod room;
 mod sets;
 
-pub use room::clear;
-pub use room::clear_leaf;
+pub use room::clear_below;
 pub use room::hand_down;
 pub use room::take_leaf;
 pub use room::zero_words;

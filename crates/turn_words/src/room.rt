@@ -2,7 +2,7 @@
 ghost use mathlib.Core.Path.{_≡_};
 ghost use Prim.Native.Nat.{_+_, _≤_, _<_};
 ghost use lib.ListN.{length};
-ghost use Rattle.turn_words.specs.TurnRoom.{zeroed, copied, Apart, cleared, leafCleared, handedDown, leafTaken};
+ghost use Rattle.turn_words.specs.TurnRoom.{zeroed, copied, Apart, handedDown, leafTaken};
 use mask::single;
 use mask::single_32;
 
@@ -30,20 +30,12 @@ fn copy_words(source: usize, target: usize, count: usize, room: &mut [u16])
     }
 }
 
-// Domains and reasons of a turn become zero.
-pub fn clear(room: &mut [u16])
-    requires { ⌜ 128 ≤ length (now room) ⌝ }
-    ensures { λ _. ⌜ now (room .exit) ≡ cleared (now (room .entry)) ⌝ }
+// Domains and reasons of the turn below become zero.
+pub fn clear_below(room: &mut [u16])
+    requires { ⌜ 224 ≤ length (now room) ⌝ }
+    ensures { λ _. ⌜ now (room .exit) ≡ zeroed 128 224 (now (room .entry)) ⌝ }
 {
-    zero_words(0, 96, room);
-}
-
-// The leaf of a turn becomes zero.
-pub fn clear_leaf(room: &mut [u16])
-    requires { ⌜ 128 ≤ length (now room) ⌝ }
-    ensures { λ _. ⌜ now (room .exit) ≡ leafCleared (now (room .entry)) ⌝ }
-{
-    zero_words(96, 128, room);
+    zero_words(128, 224, room);
 }
 
 // The turn below gets the domains and reasons, with value a of variable d played.

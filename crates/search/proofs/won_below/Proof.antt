@@ -1,5 +1,5 @@
-use Rattle.turn_words.specs.TurnRoom.{cleared}
-use mathlib.Core.Path.{refl, ap, _∙_}
+use Rattle.turn_words.specs.TurnRoom.{zeroed}
+use mathlib.Core.Path.{ap, _∙_}
 use borrow.Author.Needs.{needs}
 use Rattle.search.proofs.won_below.Statement.{statement}
 use Rattle.search.proofs.won_below.Tie as tie
@@ -7,15 +7,15 @@ use Rattle.search.proofs.won_below.Tie as tie
 take-leaf-requires : tie.Need-take-leaf-requires
 take-leaf-requires c κs = search needs
 
-clear-requires : tie.Need-clear-requires
-clear-requires c κs = search needs
+won-here-requires : tie.Need-won-here-requires
+won-here-requires c κs = search needs
 
 same-length : tie.Need-same-length
 same-length c = search needs
 
 returns : tie.Need-returns
 returns c =
-    (refl, c .before .before .clear .ensures ∙ ap cleared (c .before .before .before .before .before .before .take-leaf .ensures))
+    let o = c .before .before .won-here .ensures in (o .0, o .1, o .2 ∙ ap (zeroed 128 224) (c .before .before .before .before .before .before .take-leaf .ensures))
 
 pub won-below-spec : {M : Type 1} → statement M
-won-below-spec = tie.close (tie.spec take-leaf-requires clear-requires same-length returns)
+won-below-spec = tie.close (tie.spec take-leaf-requires won-here-requires same-length returns)

@@ -1,6 +1,7 @@
 use borrow.Author.Needs.{needs}
 use lib.ListN.{length}
-use mathlib.Core.Path.{_≡_}
+use mathlib.Core.Path.{_≡_, refl}
+use Prim.Native.Nat.{_≤_}
 use native.Mathlib.Omega.{arith}
 use Rattle.position.proofs.Fitting.{fits-plays}
 use Rattle.search_run.proofs.RunLaws.{first-stands, first-blank, run-finds, room-kept}
@@ -11,29 +12,40 @@ use Rattle.search_run.proofs.run_in.Tie as tie
 long : (s : tie.Start) → length (s .args .p .values) ≡ 32
 long s = search needs
 
+-- The words of the turn are there after it.
+deep : (c : tie.After-first-turn) → 128 ≤ length (c .first-turn .last .1 .1 .1 .1 .1 .1 .1 .0)
+deep c =
+    let p = c .before .before .before .before .before .before .before .pre in
+    omega (arith, p .2, fits-plays _ _ _ (p .1), c .before .before .before .before .first-words .ensures .size, c .first-turn .ensures .room .size)
+
 first-words-requires : tie.Need-first-words-requires
 first-words-requires c κs = let s = c .before .before in let p = s .pre in let h = fits-plays _ _ _ (p .1) in (p .0, omega (arith, p .2, h), p .1, λ k u. p .4 k (omega (arith, h)))
 
-first-reached-requires : tie.Need-first-reached-requires
-first-reached-requires c κs = let s = c .before .before .before .before .before .before in let p = s .pre in let h = fits-plays _ _ _ (p .1) in let f = c .before .before .before .first-words .ensures in (p .0, h, omega (arith, p .2, h, f .size), p .3, first-stands _ _ _ _ _ _ _ _ (p .0) (long s) (p .1) _ _ f (p .5))
+first-turn-requires : tie.Need-first-turn-requires
+first-turn-requires c κs = let s = c .before .before .before .before .before .before in let p = s .pre in let h = fits-plays _ _ _ (p .1) in let f = c .before .before .before .first-words .ensures in
+    (p .0, h, omega (arith, p .2, f .size), p .3, first-blank _ _ _ _ _ f (p .4), first-stands _ _ _ _ _ _ _ _ (p .0) (long s) (p .1) _ _ f (p .5))
 
-turn-requires : tie.Need-turn-requires
-turn-requires c κs = let s = c .before .before .before .before .before .before .before .before in let p = s .pre in let h = fits-plays _ _ _ (p .1) in let f = c .before .before .before .before .before .first-words .ensures in (p .0, h, omega (arith, p .2, f .size), p .3, first-blank _ _ _ _ _ f (p .4), first-stands _ _ _ _ _ _ _ _ (p .0) (long s) (p .1) _ _ f (p .5))
+list-of-requires : tie.Need-list-of-requires
+list-of-requires c κs = (c .before .before .before .before .before .before .before .before .before .before .pre .0, deep (c .before .before .before))
 
 leaf-of-requires : tie.Need-leaf-of-requires
-leaf-of-requires c κs = let s = c .before .before .before .before .before .before .before .before .before .before .before .before in let p = s .pre in let h = fits-plays _ _ _ (p .1) in (p .0, omega (arith, p .2, h, c .before .before .before .before .before .before .before .before .before .first-words .ensures .size, c .before .before .before .turn .ensures .1 .size))
+leaf-of-requires c κs = (c .before .before .before .before .before .before .before .before .before .before .before .before .pre .0, deep (c .before .before .before .before .before))
 
 zero-words-requires : tie.Need-zero-words-requires
-zero-words-requires c κs = let s = c .before .before .before .before .before .before .before .before .before .before .before .before .before .before in let p = s .pre in let h = fits-plays _ _ _ (p .1) in (omega arith, omega (arith, p .2, h, c .before .before .before .before .before .before .before .before .before .before .before .first-words .ensures .size, c .before .before .before .before .before .turn .ensures .1 .size))
+zero-words-requires c κs = (omega arith, deep (c .before .before .before .before .before .before .before))
+
+conflict-of-requires : tie.Need-conflict-of-requires
+conflict-of-requires c κs = search needs
 
 same-length : tie.Need-same-length
 same-length c = search needs
 
 returns : tie.Need-returns
-returns c = let s = c .before .before .before .before .before .before .before .before .before .before .before .before .before .before .before .before .before .before in let p = s .pre in let h = fits-plays _ _ _ (p .1) in let f = c .before .before .before .before .before .before .before .before .before .before .before .before .before .before .before .first-words .ensures in
-    let t = c .before .before .before .before .before .before .before .before .before .turn .ensures in (
-      (λ P o. run-finds _ _ _ _ _ _ _ _ (p .0) (long s) (p .1) _ _ f _ _ (c .before .before .before .before .before .before .before .before .before .before .before .first-reached .ensures) t (c .before .before .before .before .before .leaf-of .ensures) h P o),
-      room-kept _ _ _ _ _ f (p .4) _ _ _ (t .1) (c .before .before .before .zero-words .ensures) (p .2) h (p .0),
+returns c = let s = c .before .before .before .before .before .before .before .before .before .before .before .before .before .before .before .before .before .before in let p = s .pre in let h = fits-plays _ _ _ (p .1) in
+    let f = c .before .before .before .before .before .before .before .before .before .before .before .before .before .before .before .first-words .ensures in
+    let t = c .before .before .before .before .before .before .before .before .before .before .before .first-turn .ensures in (
+      (λ P o. run-finds _ _ _ _ _ _ _ _ (p .0) (long s) (p .1) _ _ f _ _ t _ refl refl (c .before .before .before .before .before .before .before .list-of .ensures) (c .before .before .before .before .before .leaf-of .ensures) (c .conflict-of .ensures) h P o),
+      room-kept _ _ _ _ _ f (p .4) _ _ _ (t .room) (c .before .before .before .zero-words .ensures) (p .2) h (p .0),
     )
 
 pub run-in-spec : {M : Type 1} → statement M
@@ -41,9 +53,10 @@ run-in-spec =
     tie.close
     (tie.spec
     first-words-requires
-    first-reached-requires
-    turn-requires
+    first-turn-requires
+    list-of-requires
     leaf-of-requires
     zero-words-requires
+    conflict-of-requires
     same-length
     returns)
