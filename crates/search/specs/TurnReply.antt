@@ -9,7 +9,7 @@ use lib.ListN.{getD, length}
 use Rattle.game.specs.Problem.{Problem}
 use Rattle.game.specs.Position.{legal}
 use Rattle.game.specs.Search.{Verdict, solved, failed, search}
-use Rattle.theory.proofs.SearchNotions.{TurnOf}
+use Rattle.game.specs.Turns.{TurnOf}
 use Rattle.arrays.specs.Arrays.{States}
 use Rattle.arrays.specs.Words.{listIn, whyIn, leafIn}
 use Rattle.turn_words.specs.TurnSets.{ReasonsBelow}
