@@ -14,10 +14,10 @@ use Rattle.mask.proofs.Logic.{holds, fails, clash, true-holds, and-out, by-lt}
 use Rattle.mask.proofs.Bits.{bit-and, bit-or, bit-diff, bit-single, bit-of-zero}
 use Rattle.game.specs.Problem.{Problem}
 use Rattle.game.specs.Reasons.{Sheet, loop, cause, surviving, revise, pass, revisions}
+use Rattle.theory.specs.AnyOrder.{Formed}
 use Rattle.arrays.specs.Arrays.{States}
 use Rattle.arrays.specs.Words.{listIn, whyIn, reasonIn, putReason, holding}
 use Rattle.arrays.proofs.WordLaws.{length-listIn, length-whyIn, getD-listIn, holding-domain, holding-reason, holding-own, set-domain, set-reason}
-use Rattle.theory.proofs.SearchNotions.{Formed}
 use Rattle.theory.proofs.Revisions.{revisions-loop}
 use Rattle.arc_order.specs.Over.{over}
 use Rattle.arc_order.proofs.Loops.{loop-from, loop-beside, over-longer, over-made}

@@ -21,6 +21,8 @@ pub mod Support
 pub mod Rule
 -- Rule 1.
 pub mod Arc
+-- Rule 1's removals, in any order ("Dead options are removed until none is left").
+pub mod Removals
 -- Rule 2.
 pub mod Forward
 -- Rule 3.
@@ -35,3 +37,8 @@ pub mod Turn
 pub mod Reasons
 -- The turns of a search under all seven rules.
 pub mod Search
+-- The turns that a search may come to ("A turn of a search starts from the list of the turn above with the new play narrowed, the first turn
+-- from the position").
+pub mod Turns
+-- Rule 7's sentence as a turn ("an untried option of a day's choice is skipped if, and only if, ..").
+pub mod Skipping

@@ -1,7 +1,8 @@
 -- Lists of masks: the form in which domains are lent, kept and replied.
+use mathlib.Core.Path.{_≡_}
 use mathlib.Core.Bool.{Bool, true, not, _&&_}
 use mathlib.Core.List.{List, [], _∷_}
-use Prim.Native.Nat.{ℕ, zero, suc, _^_}
+use Prim.Native.Nat.{ℕ, zero, suc, _^_, _<_}
 use lib.Dec.{eqb}
 use lib.Bits.{bitAnd}
 use lib.ListN.{getD, length, set}
@@ -21,6 +22,11 @@ listOf (suc n) f = f zero ∷ listOf n (λ i. f (suc i))
 
 unfoldable pub masksOf : ℕ → Domains → List ℕ
 masksOf n D = listOf n (λ i. maskOf 16 (D i))
+
+-- A list of n masks of 16 bits.
+pub record Masks (n : ℕ) (l : List ℕ) : Type 0 where
+  pub size : length l ≡ n
+  pub small : (i : ℕ) → getD l i 0 < 65536
 
 -- The list with variable i narrowed to value a.
 unfoldable pub narrowTo : List ℕ → ℕ → ℕ → List ℕ

@@ -5,6 +5,7 @@ mod positions;
 mod rooms;
 mod searches;
 mod sets;
+mod stating;
 mod stored;
 
 pub use along::conflict_along;
@@ -24,6 +25,10 @@ pub use searches::searched;
 pub use sets::judges_under_all;
 pub use sets::marks_as_plain;
 pub use sets::marks_under_all;
+pub use stating::call_set;
+pub use stating::stating;
+pub use stating::taken;
+pub use stating::used_words;
 pub use stored::Call;
 pub use stored::Game;
 pub use stored::call_at;

@@ -4,6 +4,7 @@ use crate::rooms::Answer;
 use crate::rooms::refused;
 use crate::rooms::refused_at;
 use position::Position;
+use refusal::both;
 use refusal::either;
 use vectors::byte;
 use vectors::place;
@@ -69,9 +70,9 @@ pub fn call_at(s: &[u8], p: usize) -> Call {
     }
 }
 
-// A stored refusal. No file among the cases has a wrong rule set, so 8 is the call's.
+// A stored refusal. 1 to 9 are the file's, with their place; but 8 is also the call's. A call's has the place 0, where no RS stands.
 pub fn refusal_of(number: usize, place: usize) -> Answer {
-    if either(number == 8, 9 < number) {
+    if either(both(number == 8, place == 0), 9 < number) {
         return refused(number);
     }
     refused_at(number, place)

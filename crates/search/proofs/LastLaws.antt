@@ -15,8 +15,8 @@ use Rattle.game.specs.Game.{satisfied}
 use Rattle.game.specs.Position.{playOf}
 use Rattle.game.specs.Rule.{uses}
 use Rattle.game.specs.Search.{Verdict, solved, failed, handed, firstBroken, search}
+use Rattle.theory.specs.TurnList.{AtTurn}
 use Rattle.theory.proofs.Theorems as theorems
-use Rattle.theory.proofs.Notions.{AtTurn}
 use Rattle.arrays.specs.Arrays.{States}
 use Rattle.arrays.specs.Words.{listIn, whyIn, leafIn}
 use Rattle.arrays.proofs.WordLaws.{length-listIn, getD-listIn}

@@ -23,7 +23,8 @@ use Rattle.game.specs.Arc.{dead, barred, arcLoss}
 use Rattle.game.specs.Turn.{nextList, reached}
 use Rattle.game.specs.Reasons.{Sheet, Step, Ruling, chain, choose, idle, kills, revisions, explainChecks, explainArc, explainAhead, explained}
 use Rattle.game.specs.Search.{narrowNext}
-use Rattle.theory.proofs.SearchNotions.{TurnOf, first, below, Formed}
+use Rattle.game.specs.Turns.{TurnOf, first, below}
+use Rattle.theory.specs.AnyOrder.{Formed}
 use Rattle.theory.proofs.Arc.{Closed}
 use Rattle.theory.proofs.Revisions.{revisions-closed, kills-local}
 use Rattle.theory.proofs.Explained as explaining

@@ -15,11 +15,11 @@ use Rattle.game.specs.Rule.{uses}
 use Rattle.game.specs.Turn.{nextList, reached}
 use Rattle.game.specs.Reasons.{Step, explained, nextReasons}
 use Rattle.game.specs.Search.{Verdict, solved, failed, handed, handUp, someValue, eachValue, skippable, startSet, narrowNext, search}
+use Rattle.game.specs.Turns.{TurnOf, below, turnBelow}
 use Rattle.theory.proofs.Theorems as theorems
 use Rattle.theory.proofs.Lists.{lent-out}
 use Rattle.theory.proofs.Turns.{inner, search-next, turn-at}
 use Rattle.theory.proofs.TurnLists.{snoc-length}
-use Rattle.theory.proofs.SearchNotions.{TurnOf, below, turnBelow}
 use Rattle.arrays.specs.Arrays.{States}
 use Rattle.arrays.specs.Words.{listIn, whyIn}
 use Rattle.arrays.proofs.WordLaws.{getD-listIn}

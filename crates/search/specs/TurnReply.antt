@@ -10,7 +10,7 @@ use Rattle.game.specs.Problem.{Problem}
 use Rattle.game.specs.Position.{legal}
 use Rattle.game.specs.Turn.{reached}
 use Rattle.game.specs.Search.{Verdict, solved, failed, search}
-use Rattle.theory.proofs.SearchNotions.{TurnOf}
+use Rattle.game.specs.Turns.{TurnOf}
 use Rattle.arrays.specs.Arrays.{States}
 use Rattle.arrays.specs.Words.{listIn, whyIn, leafIn}
 use Rattle.turn_words.specs.TurnSets.{ReasonsBelow}

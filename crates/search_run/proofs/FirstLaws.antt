@@ -16,8 +16,8 @@ use Rattle.game.specs.Lists.{listOf}
 use Rattle.game.specs.Position.{legal}
 use Rattle.game.specs.Turn.{firstList}
 use Rattle.game.specs.Reasons.{firstReasons}
+use Rattle.game.specs.Turns.{TurnOf, first}
 use Rattle.theory.proofs.Lists.{length-listOf, getD-listOf}
-use Rattle.theory.proofs.SearchNotions.{TurnOf, first}
 use Rattle.arrays.specs.Words.{listIn, whyIn, leafIn, reasonIn, putReason}
 use Rattle.arrays.proofs.WordLaws.{length-putReason}
 use Rattle.forward_rule.proofs.StepLaws.{listOf-same}

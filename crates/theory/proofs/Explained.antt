@@ -24,6 +24,7 @@ use Rattle.game.specs.Arc.{arcLoss, barred}
 use Rattle.game.specs.Forward.{forwardDomains, forwardLoss, forward, forwardNamed}
 use Rattle.game.specs.LookAhead.{aheadLoss, lookAhead, aheadNamed}
 use Rattle.game.specs.Reasons.{Step, Ruling, idle, chain, choose, Sheet, neighbours, forwardConflict, forwardReasons, explainForward, explainChecks, revisions, emptied, against, arcConflict, explainArc, explainAhead, explained}
+use Rattle.theory.specs.AnyOrder.{Formed, Revisions}
 use Rattle.theory.proofs.Transfer.{In}
 use Rattle.theory.proofs.Swap.{start}
 use Rattle.theory.proofs.Laws.{Answers}
@@ -39,7 +40,6 @@ use Rattle.theory.proofs.Reasons
 use Rattle.theory.proofs.Reasons.{Told, Cut}
 use Rattle.theory.proofs.ReasonLists.{in-left, in-right, in-out, in-list}
 use Rattle.theory.proofs.Revisions
-use Rattle.theory.proofs.SearchNotions.{Formed, Revisions}
 
 module _ (P : Problem) (F : Domains) (foe : Play) (foe-in : Answers P F foe) where
   open Problem P using (n, universal, compatible, symmetric, constrained, apart)

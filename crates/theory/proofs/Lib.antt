@@ -1,10 +1,9 @@
 -- Theorems of the game, of rules 1 to 5 and of the search. Start with Theorems: it holds the statements.
+-- What they speak of stands in the specs of game and of this crate.
 
 -- The statements, each with the sentence of document 01 that it answers.
 pub mod Theorems
--- What the statements speak of: removals in any order, lists of a turn.
-pub mod Notions
--- G1 to G9 computed, each theorem at one of them, and two plausible and wrong readings.
+-- Each theorem at a small problem, and two plausible and wrong readings. The small problems themselves: crate small_problems.
 pub mod Samples
 -- Over domains -------------------------------------------------------------------------------------------------------------------
 -- One move of the game, as a type.
@@ -43,8 +42,6 @@ pub mod Standing
 -- Rules that are switched off.
 pub mod Sets
 -- The search ---------------------------------------------------------------------------------------------------------------------
--- What the statements of the search speak of: turns, revisions in any order, rule 7 in words.
-pub mod SearchNotions
 -- Conflict sets and boxes of values: what rules 6 and 7 rest on.
 pub mod Conflict
 -- The invariant of reasons, and the laws of removals and of losses.

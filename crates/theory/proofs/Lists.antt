@@ -18,9 +18,8 @@ use Rattle.mask.proofs.Bits.{bit-single, bit-of-zero, bit-high, bit-none, bit-a
 use Rattle.mask.proofs.Masks.{maskOf-lt, bit-maskOf, maskOf-bits}
 use Rattle.game.specs.Problem.{Problem}
 use Rattle.game.specs.Game.{Domains, replace, narrow}
-use Rattle.game.specs.Lists.{domains, listOf, masksOf, narrowTo, within, mayLend, winsOver}
+use Rattle.game.specs.Lists.{domains, listOf, masksOf, narrowTo, within, mayLend, winsOver, Masks}
 use Rattle.game.specs.Position.{playOf, narrowed, placed}
-use Rattle.theory.proofs.Notions.{Masks}
 use Rattle.theory.proofs.Transfer.{In}
 use Rattle.theory.proofs.Swap.{start, wins-start}
 

@@ -8,7 +8,7 @@ use Rattle.mask.specs.Range.{some}
 use Rattle.mask.proofs.Range.{some-out}
 use Rattle.game.specs.Problem.{Problem}
 use Rattle.game.specs.Game.{replace, Domains, Play}
-use Rattle.game.specs.Lists.{domains}
+use Rattle.game.specs.Lists.{domains, Masks}
 use Rattle.game.specs.Pure.{lowest, isPure, purged}
 use Rattle.game.specs.Interchangeable.{representatives}
 use Rattle.game.specs.Rule.{uses, Ruled, ListRule, unruled, ifSo, andNext}
@@ -21,7 +21,6 @@ use Rattle.theory.proofs.Pure.{lowest-is, lowest-out, pure-out}
 use Rattle.theory.proofs.Interchangeable
 use Rattle.theory.proofs.Sound.{State, Sound}
 use Rattle.theory.proofs.Turn
-use Rattle.theory.proofs.Notions.{Masks}
 use Rattle.theory.proofs.OnLists
 
 module _ (P : Problem) where

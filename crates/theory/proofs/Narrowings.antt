@@ -16,7 +16,7 @@ use Rattle.mask.proofs.Bits.{bit-single, bit-diff, bit-none, bit-of-zero, bit-e
 use Rattle.mask.proofs.Masks.{maskOf-lt, bit-maskOf, maskOf-bits, diff-lt}
 use Rattle.game.specs.Problem.{Problem}
 use Rattle.game.specs.Game.{Domains, replace, narrow}
-use Rattle.game.specs.Lists.{domains, narrowTo}
+use Rattle.game.specs.Lists.{domains, narrowTo, Masks}
 use Rattle.game.specs.Arc.{arc, arcLoss}
 use Rattle.game.specs.Forward.{forward}
 use Rattle.game.specs.Pure.{lowest, isPure, purged, pure, purge}
@@ -31,7 +31,6 @@ use Rattle.theory.proofs.OnLists
 use Rattle.theory.proofs.OnLists.{lowestOf, answers}
 use Rattle.theory.proofs.TurnLists
 use Rattle.theory.proofs.Lists.{Lent, domains-boxed, bits-of, first-in}
-use Rattle.theory.proofs.Notions.{Masks}
 
 -- The lowest member as a mask.
 pub lowest-mask : (q : ℕ → Bool) (k : ℕ) → k < 16 → T (q k) → maskOf 16 (lowest q) ≡ 2 ^ first 16 q

@@ -15,8 +15,9 @@ use Rattle.mask.proofs.Bits.{bit-diff}
 use Rattle.mask.proofs.Masks.{maskOf-lt, diff-lt}
 use Rattle.game.specs.Problem.{Problem}
 use Rattle.game.specs.Game.{Domains, Play, replace}
-use Rattle.game.specs.Lists.{domains, masksOf, narrowTo, winsOver}
+use Rattle.game.specs.Lists.{domains, masksOf, narrowTo, winsOver, Masks}
 use Rattle.game.specs.Arc.{dead, sweep, sweeps, swept, arc}
+use Rattle.game.specs.Removals.{Removal, Removals, none, more, NoneDead}
 use Rattle.game.specs.Forward.{forwardDomains, forwardFails, forwardLoss, forward, forwardNamed}
 use Rattle.game.specs.LookAhead.{aheadLoss, lookAhead, aheadNamed}
 use Rattle.game.specs.Pure.{purged, purge}
@@ -31,7 +32,6 @@ use Rattle.theory.proofs.Pure
 use Rattle.theory.proofs.Interchangeable
 use Rattle.theory.proofs.Turn.{sweep-part, sweep-cut, sweeps-toward}
 use Rattle.theory.proofs.Closure
-use Rattle.theory.proofs.Notions.{Masks, Removal, Removals, none, more, NoneDead}
 use Rattle.theory.proofs.Lists
 use Rattle.theory.proofs.Lists.{first-in, Boxed, Lent, masksOf-masks, domains-masksOf, domains-boxed, masksOf-domains, over-start}
 

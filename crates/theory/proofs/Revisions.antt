@@ -21,9 +21,9 @@ use Rattle.game.specs.Problem.{Problem}
 use Rattle.game.specs.Game.{Domains, Play, replace}
 use Rattle.game.specs.Support.{clashes, alone}
 use Rattle.game.specs.Arc.{dead, arc}
-use Rattle.game.specs.Lists.{domains}
+use Rattle.game.specs.Lists.{domains, Masks}
 use Rattle.game.specs.Reasons.{Sheet, loop, kills, cause, surviving, revise, pass, sameDomains, passes, revisions}
-use Rattle.theory.proofs.Notions.{Masks}
+use Rattle.theory.specs.AnyOrder.{Formed, Revision, Revisions, none, one}
 use Rattle.theory.proofs.Transfer.{In}
 use Rattle.theory.proofs.Laws.{Answers}
 use Rattle.theory.proofs.Arc
@@ -37,7 +37,6 @@ use Rattle.theory.proofs.OnLists.{masks-ext}
 use Rattle.theory.proofs.ReasonLists.{in-left, in-right, reason-at, reason-off}
 use Rattle.theory.proofs.Reasons
 use Rattle.theory.proofs.Reasons.{Told}
-use Rattle.theory.proofs.SearchNotions.{Formed, Revision, Revisions, none, one}
 
 -- What each step of a loop keeps, the loop keeps.
 pub loop-keeps : {A : Type 0} (Q : A → Type 0) (v a n : ℕ) (f : ℕ → A → A) → v + a ≡ n → ((j : ℕ) (s : A) → j < n → Q s → Q (f j s)) → (s : A) → Q s → Q (loop v a f s)

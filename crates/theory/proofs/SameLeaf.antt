@@ -15,12 +15,13 @@ use Rattle.game.specs.Rule.{uses}
 use Rattle.game.specs.Turn.{nextList}
 use Rattle.game.specs.Reasons.{nextReasons, Step, explained}
 use Rattle.game.specs.Search.{Verdict, solved, failed, is-solved, or-else, and-also, handUp, someValue, untried, eachValue, leaf, skippable, narrowNext, startSet, search}
+use Rattle.game.specs.Turns.{turnBelow}
+use Rattle.theory.specs.OtherSets.{Others}
 use Rattle.theory.proofs.TurnLists.{snoc-length}
 use Rattle.theory.proofs.Values
 use Rattle.theory.proofs.Search.{after}
 use Rattle.theory.proofs.Turns
 use Rattle.theory.proofs.Turns.{At, inner, search-next}
-use Rattle.theory.proofs.SearchNotions.{Others, turnBelow}
 
 -- Two answers: a leaf is no conflict set, and each leaf is one leaf.
 not-both : {A : Type 0} (S : ℕ) (q : List ℕ) → failed S ≡ solved q → A

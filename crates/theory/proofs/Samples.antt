@@ -1,13 +1,14 @@
--- The small problems G1 to G9 of document 01, computed from the definitions.
+-- Each theorem at a small problem of document 01, what the rules that the table of small_problems does not ask for compute there, and the two
+-- plausible and wrong readings of rules.
 use mathlib.Core.Path.{_≡_, refl, sym, ap}
-use mathlib.Core.Bool.{Bool, true, false, cond, not, _&&_, _||_, Bool·beq}
+use mathlib.Core.Bool.{Bool, true, false, cond, not, _&&_, _||_}
 use mathlib.Core.List.{List, [], _∷_}
 use Prim.Native.Nat.{ℕ, zero, suc, _<_}
 use native.Mathlib.Omega.{arith}
 use lib.ListN.{getD, set}
 use lib.Count.{ones as ones-of}
 use lib.Dec.{T, eqb, eqb→eq, ltb}
-use Rattle.mask.specs.Range.{some, each, count, first}
+use Rattle.mask.specs.Range.{some, each, first}
 use Rattle.mask.specs.Mask.{bit, diff, maskOf}
 use Rattle.mask.proofs.Logic.{clash}
 use Rattle.mask.proofs.Bits.{bit-single}
@@ -16,20 +17,21 @@ use Rattle.game.specs.Game.{Domains, put, turn, satisfied, won, wins}
 use Rattle.game.specs.Lists.{domains, listOf, masksOf, narrowTo, within, mayLend, winsOver}
 use Rattle.game.specs.Position.{playOf, legal, narrowed, position}
 use Rattle.game.specs.Calls.{play, takeBack, withoutLast, afterCall, standingFrom, standing}
-use Rattle.game.specs.Open.{isOpen, openValues, openCounts}
+use Rattle.game.specs.Open.{openValues, openCounts}
 use Rattle.game.specs.Winning.{verdict, winningValues}
 use Rattle.game.specs.Support.{clashes, alone, empty}
 use Rattle.game.specs.Rule.{uses, Ruled, unruled, ifSo, andNext}
 use Rattle.game.specs.Arc.{dead, barred, arcLoss, sweep, swept, arc}
+use Rattle.game.specs.Removals.{Removals, none, more}
 use Rattle.game.specs.Forward.{forwardDomains, forwardLoss, forward, forwardNamed}
 use Rattle.game.specs.LookAhead.{aheadLoss, lookAhead, aheadNamed}
 use Rattle.game.specs.Pure.{lowest, isPure, purged, pure, purge}
 use Rattle.game.specs.Interchangeable.{interchange, representatives, interchangeable, represent}
 use Rattle.game.specs.Turn.{firstList, nextList, checks, ahead, narrowPure, narrowInterchangeable, nextRules, reached}
+use Rattle.theory.specs.TurnList.{AtTurn}
 use Rattle.theory.proofs.Small.{mkProblem}
 use Rattle.theory.proofs.Lists.{lent-out}
 use Rattle.theory.proofs.OnLists.{remove-some}
-use Rattle.theory.proofs.Notions.{Removals, none, more, AtTurn}
 use Rattle.theory.proofs.Theorems
 
 -- Which pairs of values are compatible: they differ; 0 goes with both, 1 with 1 only.
@@ -60,49 +62,17 @@ G5 = mkProblem (λ i. false) (3 ∷ 3 ∷ []) tt every low
 abbrev pub G6 : Problem
 G6 = mkProblem (λ i. ltb i 2) (3 ∷ 3 ∷ 3 ∷ []) tt (λ i j. eqb j 2) (λ i a j b. cond (eqb i 1) (eqb a b) (eqb a 0 || eqb b 1))
 
-abbrev pub G7 : Problem
-G7 = mkProblem (λ i. false) (32 ∷ []) tt (λ i j. false) differ
-
 abbrev pub G8 : Problem
 G8 = mkProblem (λ i. false) (3 ∷ 3 ∷ []) tt every (λ i a j b. true)
 
--- A row of the table: a problem, its plays, the verdict, and the mask of the next variable's winning values.
-record Row : Type 0 where
-  problem : Problem
-  plays : List ℕ
-  yes : Bool
-  winning : ℕ
-
-abbrev row : Problem → List ℕ → Bool → ℕ → Row
-row P p v m = record { problem = P; plays = p; yes = v; winning = m }
-
-unfoldable right : List Row → Bool
-right [] = true
-right (r ∷ rs) = Bool·beq (verdict (r .problem) (r .plays)) (r .yes) && (eqb (winningValues (r .problem) (r .plays)) (r .winning) && right rs)
-
--- G1 to G8 at the start, G9 (after play 0 and, below, its take-back), and G10's verdict.
-verdicts : T (right (row G1 [] true 3 ∷ row G2 [] false 0 ∷ row G3 [] false 0 ∷ row G4 [] true 1 ∷ row G5 [] true 3 ∷ row G6 [] false 1 ∷ row G7 [] true 32 ∷ row G8 [] true 3
-    ∷ row G1 (0 ∷ []) true 2 ∷ row G1 (0 ∷ 0 ∷ []) false 0 ∷ []))
-unfolding right some each put turn satisfied won wins bit maskOf domains winsOver narrowed position verdict winningValues
-verdicts = tt
-
--- The plain list: a play stands if its value is in the next domain, whatever number it is; a take-back takes the last.
-calls : (standing G1 (play 0 ∷ []) ≡ 0 ∷ []) × (standing G1 (play 0 ∷ takeBack ∷ []) ≡ []) × (standing G1 (takeBack ∷ play 2 ∷ play 1 ∷ play 1000000 ∷ play 0 ∷ play 0 ∷ []) ≡ 1 ∷ 0 ∷ [])
+-- The plain list: a play stands if its value is in the next domain, whatever number it is, and fewer than n stand; calls that change nothing
+-- among them.
+calls : standing G1 (takeBack ∷ play 2 ∷ play 1 ∷ play 1000000 ∷ play 0 ∷ play 0 ∷ []) ≡ 1 ∷ 0 ∷ []
 unfolding bit domains withoutLast afterCall standingFrom standing
-calls = (refl, refl, refl)
-
--- G9: open at variable 1 is {1}.
-opened : (openValues G1 (0 ∷ []) ≡ 1 ∷ 2 ∷ []) × (openCounts G1 (0 ∷ []) ≡ 1 ∷ 1 ∷ []) × (openValues G1 [] ≡ 3 ∷ 3 ∷ [])
-unfolding each count bit maskOf domains listOf masksOf isOpen openValues openCounts
-opened = (refl, refl, refl)
+calls = refl
 
 abbrev ruled : Bool → List ℕ → Ruled
 ruled b l = record { loss = b; list = l }
-
--- Rule 1: it empties variable 0 of G2 and leaves {0} there in G4.
-arcs : (arc G2 (3 ∷ 3 ∷ []) ≡ ruled true (0 ∷ 3 ∷ [])) × (arc G4 (3 ∷ 3 ∷ []) ≡ ruled false (1 ∷ 3 ∷ []))
-unfolding some each bit maskOf domains listOf masksOf clashes alone empty dead barred arcLoss sweep swept arc
-arcs = (refl, refl)
 
 -- Rule 2: value 0 of G1's variable 0 leaves {1}; value 0 of G2's clashes at variable 1, whose domain stays. Rule 3: no loss in G1, a loss
 -- in G6 when variable 1 has a value and variable 2 is 0.
@@ -111,11 +81,10 @@ checked : (forward G1 0 0 (3 ∷ 3 ∷ []) ≡ ruled false (1 ∷ 2 ∷ [])) × 
 unfolding some bit maskOf first domains listOf masksOf clashes alone empty forwardDomains forwardLoss forward forwardNamed aheadLoss lookAhead
 checked = (refl, refl, refl, refl, refl)
 
--- Rule 4: 0 is pure in G5; both values of G3's variable 0 are, and the smallest stays. Rule 5: G8 keeps {0}, G1 keeps both.
-narrowings : (pure G5 0 (3 ∷ 3 ∷ []) ≡ 1) × (purge G5 0 (3 ∷ 3 ∷ []) ≡ 1 ∷ 3 ∷ []) × (pure G3 0 (3 ∷ 1 ∷ 1 ∷ []) ≡ 3) × (purge G3 0 (3 ∷ 1 ∷ 1 ∷ []) ≡ 1 ∷ 1 ∷ 1 ∷ [])
-    × (interchangeable G8 0 (3 ∷ 3 ∷ []) ≡ 1) × (interchangeable G1 0 (3 ∷ 3 ∷ []) ≡ 3) × (pure G4 1 (3 ∷ 3 ∷ []) ≡ 2)
+-- Rule 4's narrowing: G5 keeps the pure value; all values of G3's variable 0 are pure, and the smallest stays. Rule 5: G1 keeps both values.
+narrowings : (purge G5 0 (3 ∷ 3 ∷ []) ≡ 1 ∷ 3 ∷ []) × (purge G3 0 (3 ∷ 1 ∷ 1 ∷ []) ≡ 1 ∷ 1 ∷ 1 ∷ []) × (interchangeable G1 0 (3 ∷ 3 ∷ []) ≡ 3)
 unfolding some each bit maskOf domains lowest isPure purged pure purge interchange representatives interchangeable
-narrowings = (refl, refl, refl, refl, refl, refl, refl)
+narrowings = (refl, refl, refl)
 
 -- The turn: set 2 checks the play, set 1 closes, set 31 does both and narrows, set 0 does nothing.
 turns : (reached G1 2 0 (0 ∷ []) (firstList G1 (0 ∷ [])) ≡ ruled false (1 ∷ 2 ∷ [])) × (reached G4 1 0 [] (3 ∷ 3 ∷ []) ≡ ruled false (1 ∷ 3 ∷ []))
@@ -129,6 +98,15 @@ full = 3 ∷ 3 ∷ []
 
 abbrev ones : List ℕ
 ones = 3 ∷ 1 ∷ 1 ∷ []
+
+-- what some of the hypotheses say of rules 1 and 4
+arc-4 : arc G4 full ≡ ruled false (1 ∷ 3 ∷ [])
+unfolding some each bit maskOf domains listOf masksOf clashes alone empty dead barred arcLoss sweep swept arc
+arc-4 = refl
+
+pure-some : (pure G5 0 full ≡ 1) × (pure G4 1 full ≡ 2) × (pure G3 0 ones ≡ 3)
+unfolding each bit maskOf domains isPure pure
+pure-some = (refl, refl, refl)
 
 -- the game
 g1-standing : T (legal G1 (standing G1 (play 0 ∷ takeBack ∷ play 7 ∷ [])))
@@ -191,14 +169,14 @@ one-removal = more {l = full} {k = 1 ∷ 3 ∷ []}
 
 g4-order : 1 ∷ 3 ∷ [] ≡ arc G4 full .list
 unfolding each within mayLend
-g4-order = Theorems.arc-any-order G4 full tt (1 ∷ 3 ∷ []) one-removal (rw (ap list (arcs .1)) at (Theorems.arc-removes G4 full tt .1))
+g4-order = Theorems.arc-any-order G4 full tt (1 ∷ 3 ∷ []) one-removal (rw (ap list arc-4) at (Theorems.arc-removes G4 full tt .1))
   where
     list : Ruled → List ℕ
     list o = o .list
 
 g4-arc-lends : T (mayLend G4 (arc G4 full .list))
 unfolding each within mayLend
-g4-arc-lends = Theorems.arc-may-lend G4 full tt (ap (λ (o : Ruled). o .loss) (arcs .1))
+g4-arc-lends = Theorems.arc-may-lend G4 full tt (ap (λ (o : Ruled). o .loss) arc-4)
 
 -- rules 2 and 3
 g1-forward : winsOver G1 (narrowTo full 0 0) ≡ (not (forward G1 0 0 full .loss) && winsOver G1 (forward G1 0 0 full .list))
@@ -228,15 +206,15 @@ g4-ahead = Theorems.ahead-existential G4 full tt 0 (omega arith) refl
 -- rules 4 and 5: an existential variable, a universal one, one all of whose values are pure, and one that is not the next
 g5-smallest : winsOver G5 full ≡ winsOver G5 (narrowTo full 0 (first 16 (bit (pure G5 0 full))))
 unfolding each within mayLend
-g5-smallest = Theorems.pure-smallest G5 full tt 0 (omega arith) refl (λ z. let e = narrowings .0 in omega arith)
+g5-smallest = Theorems.pure-smallest G5 full tt 0 (omega arith) refl (λ z. let e = pure-some .0 in omega arith)
 
 g4-rest : winsOver G4 full ≡ winsOver G4 (set full 1 (diff 3 (pure G4 1 full)))
 unfolding each within mayLend diff
-g4-rest = Theorems.pure-rest G4 full tt 1 (omega arith) refl (rw (narrowings .6) λ z. omega arith)
+g4-rest = Theorems.pure-rest G4 full tt 1 (omega arith) refl (rw (pure-some .1) λ z. omega arith)
 
 g3-all : winsOver G3 ones ≡ winsOver G3 (narrowTo ones 0 (first 16 (domains ones 0)))
 unfolding each within mayLend diff
-g3-all = Theorems.pure-all G3 ones tt 0 (omega arith) refl (rw (narrowings .2))
+g3-all = Theorems.pure-all G3 ones tt 0 (omega arith) refl (rw (pure-some .2))
 
 g3-later : winsOver G3 ones ≡ winsOver G3 (purge G3 2 ones)
 unfolding each within mayLend

@@ -18,7 +18,7 @@ use Rattle.mask.proofs.Range.{some-in}
 use Rattle.mask.proofs.Masks.{bit-maskOf}
 use Rattle.game.specs.Problem.{Problem}
 use Rattle.game.specs.Game.{put, satisfied, narrow, Domains, Play}
-use Rattle.game.specs.Lists.{domains}
+use Rattle.game.specs.Lists.{domains, Masks}
 use Rattle.game.specs.Position.{playOf, legal, position, placed}
 use Rattle.game.specs.Rule.{uses}
 use Rattle.game.specs.Turn.{firstList, nextList}
@@ -31,7 +31,6 @@ use Rattle.theory.proofs.Laws.{at, Answers}
 use Rattle.theory.proofs.Moves.{put-at, put-off, replace-at, replace-off}
 use Rattle.theory.proofs.Positions.{placed-below, placed-above, placed-state}
 use Rattle.theory.proofs.Sound.{State, Sound, state-put}
-use Rattle.theory.proofs.Notions.{Masks}
 use Rattle.theory.proofs.Lists.{lent-out, domains-narrowTo, masks-narrowTo, file-lent}
 use Rattle.theory.proofs.OnLists.{lowestOf, answers}
 use Rattle.theory.proofs.Standing

@@ -27,9 +27,12 @@ use Rattle.game.specs.Interchangeable.{interchange, representatives, interchang
 use Rattle.game.specs.Turn.{firstList, nextList, checks, ahead, narrowPure, narrowInterchangeable, nextRules, reached}
 use Rattle.game.specs.Reasons.{firstReasons, nextReasons, idle, chain, choose, loop, Sheet, neighbours, forwardConflict, forwardReasons, explainForward, explainChecks, kills, cause, surviving, revise, pass, sameDomains, passes, revisions, emptied, against, arcConflict, explainArc, explainAhead, explained}
 use Rattle.game.specs.Search.{Verdict, solved, failed, is-solved, handed, handUp, someValue, untried, eachValue, broken, firstBroken, leaf, solid, around, skippable, narrowNext, startSet, search, searchFrom, markedValues}
-use Rattle.theory.proofs.SearchNotions.{TurnOf, first, below, skippingTurn, Others, Formed, none}
+use Rattle.game.specs.Turns.{TurnOf, first, below}
+use Rattle.game.specs.Skipping.{skippingTurn}
+use Rattle.theory.specs.OtherSets.{Others}
+use Rattle.theory.specs.AnyOrder.{Formed, none}
+use Rattle.theory.specs.TurnList.{AtTurn}
 use Rattle.theory.proofs.Theorems
-use Rattle.theory.proofs.Notions.{AtTurn}
 use Rattle.theory.proofs.Small.{mkProblem, ok-bounded}
 use Rattle.theory.proofs.Samples.{G1, G6}
 use Rattle.theory.proofs.Revisions.{revisions-are}

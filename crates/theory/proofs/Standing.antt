@@ -22,11 +22,11 @@ use Rattle.game.specs.Calls.{Call, play, takeBack, withoutLast, afterCall, stan
 use Rattle.game.specs.Open.{isOpen, openValues, openCounts}
 use Rattle.game.specs.Winning.{verdict, winningValues}
 use Rattle.game.specs.Turn.{firstList}
+use Rattle.theory.specs.TurnList.{AtTurn}
 use Rattle.theory.proofs.Transfer
 use Rattle.theory.proofs.Transfer.{Inside, turn-cong}
 use Rattle.theory.proofs.Swap.{start}
 use Rattle.theory.proofs.Laws
-use Rattle.theory.proofs.Notions.{AtTurn}
 use Rattle.theory.proofs.Lists
 use Rattle.theory.proofs.Lists.{some-value, over-start, file-masks}
 use Rattle.theory.proofs.TurnLists.{at-lent, at-state, first-list, legal-out, legal-in, snoc-length, narrowed-above}

@@ -1,7 +1,7 @@
 -- What is proved of the game, of rules 1 to 5, of the turn and of the search. Each statement stands beside the sentence of document 01 that
 -- it answers; the proofs are in the other files. P is any problem, l any list that may be lent ("n masks, none zero, each within the file's
 -- mask"), p any plays, S any rule set. The laws that all of them rest on are transfer, monotone, prune and outcome in Transfer, narrowing and
--- pruning in Laws. What the statements speak of besides game's definitions stands in Notions and SearchNotions.
+-- pruning in Laws. What the statements speak of stands in game/specs and theory/specs.
 use mathlib.Core.Path.{_≡_, ap, _∙_, refl, sym, fun-ext}
 use mathlib.Core.Bool.{true, false, not, _&&_, Bool, cond}
 use mathlib.Core.List.{List, [], _∷_, _++_}
@@ -24,6 +24,7 @@ use Rattle.game.specs.Open.{openValues, openCounts}
 use Rattle.game.specs.Winning.{verdict, winningValues}
 use Rattle.game.specs.Rule.{uses, ListRule, unruled, ifSo, andNext}
 use Rattle.game.specs.Arc.{arc, arcLoss}
+use Rattle.game.specs.Removals.{Removals, NoneDead}
 use Rattle.game.specs.Forward.{forwardFails, forward, forwardNamed}
 use Rattle.game.specs.LookAhead.{lookAhead, aheadNamed}
 use Rattle.game.specs.Pure.{pure, purge}
@@ -31,7 +32,11 @@ use Rattle.game.specs.Interchangeable.{interchangeable, represent}
 use Rattle.game.specs.Turn.{firstList, nextList, reached}
 use Rattle.game.specs.Reasons.{Sheet, idle, chain, choose, explainChecks, arcConflict, explained}
 use Rattle.game.specs.Search.{Verdict, solved, failed, is-solved, handed, handUp, firstBroken, skippable, narrowNext, search, searchFrom, markedValues}
-use Rattle.theory.proofs.Notions.{Removals, NoneDead, AtTurn}
+use Rattle.game.specs.Turns.{TurnOf, first as from-position, turnBelow}
+use Rattle.game.specs.Skipping.{skippingTurn}
+use Rattle.theory.specs.TurnList.{AtTurn}
+use Rattle.theory.specs.OtherSets.{Others}
+use Rattle.theory.specs.AnyOrder.{Revisions}
 use Rattle.theory.proofs.Transfer
 use Rattle.theory.proofs.Lists
 use Rattle.theory.proofs.Lists.{Lent, lent-out, lent-in}
@@ -40,7 +45,6 @@ use Rattle.theory.proofs.Narrowings
 use Rattle.theory.proofs.TurnLists
 use Rattle.theory.proofs.Standing
 use Rattle.theory.proofs.Sets
-use Rattle.theory.proofs.SearchNotions.{TurnOf, first as from-position, turnBelow, skippingTurn, Others, Revisions}
 use Rattle.theory.proofs.Values
 use Rattle.theory.proofs.Standing.{legal-snoc}
 use Rattle.theory.proofs.Turns
@@ -280,7 +284,7 @@ module _ (P : Problem) where
 
     module _ (k : ℕ) (lk : suc k + i ≡ n) (calm : reached P S c p l .loss ≡ false) (side : universal i ≡ true) where
       -- "After the winning leaf that the turn below hands up, an untried option of a day's choice is skipped if, and only if," the test holds of
-      -- one of the leaves handed up before it is reached (`skipping` of SearchNotions).
+      -- one of the leaves handed up before it is reached (`skipping` of game).
       pub turn-skips : search P S c (suc k) p l R ≡ handUp (uses S 6) i (skippingTurn P S k p list (explained P S c p l R .why))
       turn-skips = Turns.skips-exactly P S c k p l R lk on calm side
 

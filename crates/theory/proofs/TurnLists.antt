@@ -16,7 +16,7 @@ use Rattle.mask.proofs.Range.{each-out, each-in}
 use Rattle.mask.proofs.Bits.{bit-single, bit-ext}
 use Rattle.game.specs.Problem.{Problem}
 use Rattle.game.specs.Game.{Domains, Play, replace, narrow}
-use Rattle.game.specs.Lists.{domains, narrowTo, winsOver}
+use Rattle.game.specs.Lists.{domains, narrowTo, winsOver, Masks}
 use Rattle.game.specs.Position.{playOf, legal, narrowed, position}
 use Rattle.game.specs.Rule.{uses, Ruled, ListRule, unruled, ifSo, andNext}
 use Rattle.game.specs.Arc.{arcLoss, sweep, sweeps, arc}
@@ -25,13 +25,13 @@ use Rattle.game.specs.LookAhead.{aheadLoss, lookAhead}
 use Rattle.game.specs.Pure.{purged, purge}
 use Rattle.game.specs.Interchangeable.{representatives, represent}
 use Rattle.game.specs.Turn.{firstList, nextList, checks, ahead, narrowPure, narrowInterchangeable, nextRules, reached}
+use Rattle.theory.specs.TurnList.{AtTurn}
 use Rattle.theory.proofs.Moves.{replace-at, replace-off}
 use Rattle.theory.proofs.Transfer.{In}
 use Rattle.theory.proofs.Pure
 use Rattle.theory.proofs.Interchangeable
 use Rattle.theory.proofs.Sound.{Outcome, Rule, skip, after, andThen, State, Sound}
 use Rattle.theory.proofs.Turn
-use Rattle.theory.proofs.Notions.{Masks, AtTurn}
 use Rattle.theory.proofs.Lists
 use Rattle.theory.proofs.Lists.{Lent, lent-out, lent-in, domains-boxed, over-start, file-lent, file-masks}
 use Rattle.theory.proofs.OnLists

@@ -20,14 +20,18 @@ use Rattle.game.specs.Winning.{verdict}
 use Rattle.game.specs.Rule.{uses}
 use Rattle.game.specs.Turn.{firstList, nextList, reached}
 use Rattle.game.specs.Arc.{arcLoss, arc}
+use Rattle.game.specs.Removals.{NoneDead}
 use Rattle.game.specs.Reasons.{choose, explainChecks, Step, Sheet, arcConflict, firstReasons, nextReasons, explained}
 use Rattle.game.specs.Search.{Verdict, solved, failed, is-solved, or-else, handed, handUp, someValue, eachValue, firstBroken, leaf, skippable, narrowNext, startSet, search}
+use Rattle.game.specs.Turns.{TurnOf, first, below, turnBelow}
+use Rattle.game.specs.Skipping.{shown, skippingTurn}
+use Rattle.theory.specs.TurnList.{AtTurn}
+use Rattle.theory.specs.AnyOrder.{Revisions}
 use Rattle.theory.proofs.Transfer.{In}
 use Rattle.theory.proofs.Swap.{start}
 use Rattle.theory.proofs.Laws.{at, start-at}
 use Rattle.theory.proofs.Sound.{Sound}
 use Rattle.theory.proofs.Lists.{domains-boxed, over-start, lent-out}
-use Rattle.theory.proofs.Notions.{AtTurn, NoneDead}
 use Rattle.theory.proofs.TurnLists
 use Rattle.theory.proofs.TurnLists.{legal-in, snoc-length}
 use Rattle.theory.proofs.Standing
@@ -41,7 +45,6 @@ use Rattle.theory.proofs.Plain
 use Rattle.theory.proofs.Plain.{ruled}
 use Rattle.theory.proofs.Search
 use Rattle.theory.proofs.Search.{F, foe, foe-in, Entry, playOf-snoc, after}
-use Rattle.theory.proofs.SearchNotions.{shown, Revisions, TurnOf, first, below, turnBelow, skippingTurn}
 
 module _ (P : Problem) where
   open Problem P using (n, domain, universal, compatible)

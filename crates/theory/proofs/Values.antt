@@ -21,6 +21,7 @@ use Rattle.game.specs.Game.{put, satisfied, narrow, Domains, Play}
 use Rattle.game.specs.Lists.{domains}
 use Rattle.game.specs.Position.{playOf}
 use Rattle.game.specs.Search.{Verdict, solved, failed, or-else, and-also, handed, handUp, someValue, untried, eachValue, broken, firstBroken, leaf, around, skippable}
+use Rattle.game.specs.Skipping.{shown, skipping}
 use Rattle.theory.proofs.Transfer
 use Rattle.theory.proofs.Transfer.{In, Inside}
 use Rattle.theory.proofs.Swap.{start}
@@ -30,7 +31,6 @@ use Rattle.theory.proofs.Sound.{Outcome, State, Sound}
 use Rattle.theory.proofs.Lists.{first-in}
 use Rattle.theory.proofs.Conflict.{Conflict, conflict-more, conflict-leaf, conflict-universal, conflict-jump, solid-wins}
 use Rattle.theory.proofs.ReasonLists.{in-left, in-right}
-use Rattle.theory.proofs.SearchNotions.{shown, skipping}
 
 -- What is untried after a leaf.
 pub untried-is : (skips : ℕ → Bool) (a u b : ℕ) → b < 16 → bit (untried skips a u) b ≡ (ltb a b && (bit u b && not (skips b)))

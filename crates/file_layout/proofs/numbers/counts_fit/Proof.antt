@@ -12,7 +12,7 @@ returns c = simp (lt-leb _ _ (c .if1 .taken))
 
 returns-2 : tie.Need-returns-2
 unfolding countsFit
-returns-2 c = simp (le-leb _ _ (c .before .if1 .left), lt-leb _ _ (c .if2 .taken))
+returns-2 c = simp (le-leb _ _ (c .before .if1 .left), lt-leb _ 32 (c .if2 .taken))
 
 mul-result : tie.Need-mul-result
 mul-result c = let n = c .before .before .args .n in let h : n ≤ 32 = omega arith in let g : n - 1 ≤ 32 = omega arith in omega (arith, mul-le-mul h g)

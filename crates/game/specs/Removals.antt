@@ -1,18 +1,12 @@
--- What the theorems speak of, besides the definitions of crate game.
+-- Rule 1's removals in any order: "Dead options are removed until none is left."
 use mathlib.Core.Path.{_≡_}
 use mathlib.Core.Bool.{true, false}
 use mathlib.Core.List.{List}
-use Prim.Native.Nat.{ℕ, _^_, _≤_, _<_}
+use Prim.Native.Nat.{ℕ, _<_}
 use lib.Dec.{T}
-use lib.ListN.{getD, length}
 use Rattle.game.specs.Problem.{Problem}
-use Rattle.game.specs.Lists.{domains, mayLend}
+use Rattle.game.specs.Lists.{domains, Masks}
 use Rattle.game.specs.Arc.{dead}
-
--- A list of n masks of 16 bits.
-pub record Masks (n : ℕ) (l : List ℕ) : Type 0 where
-  pub size : length l ≡ n
-  pub small : (i : ℕ) → getD l i 0 < 65536
 
 -- One step of removals, from the list l to the list m: some dead values of existential variables are taken out, and nothing else.
 pub record Removal (P : Problem) (l m : List ℕ) : Type 0 where
@@ -29,9 +23,3 @@ pub data Removals (P : Problem) : List ℕ → List ℕ → Type 0 where
 -- No value of an existential variable is dead.
 abbrev pub NoneDead : Problem → List ℕ → Type 0
 NoneDead P l = (j : ℕ) → j < P .n → P .universal j ≡ false → (a : ℕ) → T (domains l j a) → dead P (domains l) j a ≡ false
-
--- A list l of a turn after the plays p: it may be lent, and each played variable has the mask of its value.
-pub record AtTurn (P : Problem) (p l : List ℕ) : Type 0 where
-  pub may : T (mayLend P l)
-  pub depth : length p ≤ P .n
-  pub played : (j : ℕ) → j < length p → getD l j 0 ≡ 2 ^ getD p j 0
