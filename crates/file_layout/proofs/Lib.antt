@@ -2,3 +2,5 @@
 pub mod NumberLaws
 -- Laws of marks, of a record's beginning, and of where the variables begin.
 pub mod LayoutLaws
+-- What is read of the front of a file.
+pub mod FrontLaws

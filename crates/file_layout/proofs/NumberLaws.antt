@@ -1,16 +1,17 @@
 -- Laws of a problem's numbers: what the tests say, and what makes them hold. The reader and the writer share them.
 use Prim.Native.Nat.{ℕ, _+_, _-_, _*_, _/_, _≤_, _<_}
-use mathlib.Core.Path.{_≡_}
+use mathlib.Core.Path.{_≡_, ap, ap₂, _∙_}
 use mathlib.Core.Bool.{Bool, true}
 use native.Mathlib.Nat.{mul-le-mul}
 use native.Mathlib.Omega.{arith}
-use lib.Dec.{T}
+use lib.Dec.{T, ltb}
 use borrow.Author.Tests.{leb-true, ltb-true, le-leb, lt-ltb}
 use Rattle.mask.specs.Range.{each}
 use Rattle.mask.proofs.Logic.{holds, true-holds}
-use Rattle.mask.proofs.Range.{each-out, each-in}
+use Rattle.mask.proofs.Range.{each-out, each-in, each-eq}
 use Rattle.refusal.specs.declared.Verdict.the-variants.{Fine}
-use Rattle.refusal.proofs.Chain.{then-fine, need-fine, then-ok, need-ok, both-true, both-ok}
+use Rattle.refusal.specs.Chain.{_then_, need}
+use Rattle.refusal.proofs.Chain.{then-fine, then-same, need-fine, then-ok, need-ok, both-true, both-ok}
 use Rattle.file_layout.specs.Numbers.{countsFit, inOrder, pairOf, rowFits, rowsFit, constraintFits}
 
 -- The counts.
@@ -71,3 +72,16 @@ fits-in domain n last i j row p t =
     then-ok _ _ (need-ok _ _ _ (order-in i j n (t .ascends) (t .below)))
     (then-ok _ _ (need-ok _ _ _ (lt-ltb _ _ (t .above)))
     (need-ok _ _ _ (holds (each-in 16 (λ a. true) (λ a. rowFits (domain i) (domain j) a (row a)) (λ a l s. t .rows a l)))))
+
+-- Only the domains of the n variables and the 16 rows count.
+pub fits-eq : (domain domain′ : ℕ → ℕ) (n last i j : ℕ) (row row′ : ℕ → ℕ) (p : ℕ) → ((k : ℕ) → k < n → domain k ≡ domain′ k) → ((a : ℕ) → a < 16 → row a ≡ row′ a) →
+    constraintFits domain n last i j row p ≡ constraintFits domain′ n last i j row′ p
+unfolding constraintFits rowsFit
+fits-eq domain domain′ n last i j row row′ p ed er =
+    then-same _ _ _
+    (λ q.
+    let o = order-out i j n (need-fine _ _ _ q) in
+    let x : domain i ≡ domain′ i = ed i (omega (arith, o .0, o .1)) in
+    let y : domain j ≡ domain′ j = ed j (o .1) in
+    let z = each-eq 16 (λ a. true) (λ a. rowFits (domain i) (domain j) a (row a)) (λ a. rowFits (domain′ i) (domain′ j) a (row′ a)) (λ a l. rw (x, y, er a l)) in
+    ap (λ (b : Bool). need (ltb last (pairOf i j)) 6 p then need b 7 p) z)

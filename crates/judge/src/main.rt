@@ -1,7 +1,7 @@
 // The judging program: a problem file on standard input, what document 01 shows for G1 on standard output.
 //
-// The longest file has 17,994 bytes, and at most one byte more is read. What lies behind makes no difference: in a longer input
-// the reader refuses a record, or the first byte behind `EN`, and either stands within these bytes.
+// The longest file has 17,994 bytes (`longest`, problem_file/proofs/Longest.antt), and at most one byte more is read. What stands behind
+// makes no difference: the first 17,995 bytes of any input have the text of all of it (`report-tail`, reporting/proofs/LongInput.antt).
 ghost use Prim.Native.Nat.{_≤_};
 ghost use lib.ListN.{length};
 use reporting::report_file;

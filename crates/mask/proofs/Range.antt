@@ -1,5 +1,5 @@
 -- Laws of tests over a range: `each` against a function, `some` against a witness; bounds of `count` and `first`.
-use mathlib.Core.Path.{_≡_, refl}
+use mathlib.Core.Path.{_≡_, refl, ap, ap₂}
 use mathlib.Core.Bool.{Bool, true, false, cond, not, _&&_, _||_}
 use Prim.Native.Nat.{ℕ, zero, suc, _+_, _≤_, _<_}
 use native.Mathlib.Nat.{le-refl}
@@ -29,6 +29,12 @@ each-in (suc v) d f h =
     imp : (x y : Bool) → (T x → T y) → T (not x || y)
     imp true y s = s tt
     imp false y s = tt
+
+-- Tests that agree below v agree over the range.
+pub each-eq : (v : ℕ) (d f g : ℕ → Bool) → ((a : ℕ) → a < v → f a ≡ g a) → each v d f ≡ each v d g
+unfolding each
+each-eq zero d f g e = refl
+each-eq (suc v) d f g e = ap₂ _&&_ (ap (λ (b : Bool). not (d v) || b) (e v (omega arith))) (each-eq v d f g (λ a l. e a (omega arith)))
 
 pub some-out : (v : ℕ) (d f : ℕ → Bool) → T (some v d f) → (a : ℕ) × (a < v) × T (d a) × T (f a)
 unfolding some

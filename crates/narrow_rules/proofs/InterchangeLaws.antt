@@ -10,7 +10,7 @@ use lib.Pow.{pow-lt, pow-pos}
 use lib.ListN.{getD}
 use Rattle.mask.specs.Range.{some, each, first}
 use Rattle.mask.specs.Mask.{bit, maskOf, rest}
-use Rattle.mask.proofs.Range.{each-in}
+use Rattle.mask.proofs.Range.{each-in, each-eq}
 use Rattle.mask.proofs.Bits.{bit-of-zero, bit-none}
 use Rattle.mask.proofs.Masks.{maskOf-same, maskOf-lt, bit-maskOf}
 use Rattle.mask.proofs.Members.{low-lt}
@@ -22,7 +22,7 @@ use Rattle.arrays.specs.Words.{listIn}
 use Rattle.narrow_rules.specs.Narrow.{sameRow, interchangeIn, someInterchange, isRepresentative, representativesIn}
 use Rattle.narrow_rules.proofs.Joins.{or-assoc, passing-rest, same-within}
 use Rattle.narrow_rules.proofs.Stated.{neighbours, domain-of}
-use Rattle.narrow_rules.proofs.Tests.{some-below, each-eq, some-eq}
+use Rattle.narrow_rules.proofs.Tests.{some-below, some-eq}
 
 module _ (near index rows : List ℕ) (x : ℕ) (w : List ℕ) where
   -- A value represents its group where it is interchangeable with no member of the domain below it.

@@ -9,7 +9,7 @@ use lib.ListN.{getD}
 use Rattle.mask.specs.Range.{each, first}
 use Rattle.mask.specs.Mask.{bit, maskOf, rest}
 use Rattle.mask.proofs.Logic.{holds, clash}
-use Rattle.mask.proofs.Range.{each-in}
+use Rattle.mask.proofs.Range.{each-in, each-eq}
 use Rattle.mask.proofs.Bits.{bit-of-zero}
 use Rattle.mask.proofs.Masks.{maskOf-and, maskOf-same, maskOf-bits, bit-maskOf}
 use Rattle.mask.proofs.Members.{each-rest}
@@ -22,7 +22,6 @@ use Rattle.arrays.proofs.RowLaws.{common-lt}
 use Rattle.narrow_rules.specs.Narrow.{commonToAll}
 use Rattle.narrow_rules.proofs.Joins.{and-assoc}
 use Rattle.narrow_rules.proofs.Stated.{neighbours, domain-of}
-use Rattle.narrow_rules.proofs.Tests.{each-eq}
 
 -- Every value passes.
 full : maskOf 16 (λ a. true) ≡ 65535

@@ -9,22 +9,16 @@ use lib.Pow.{pow-pos}
 use Rattle.mask.specs.Range.{some, each, first}
 use Rattle.mask.specs.Mask.{bit, rest}
 use Rattle.mask.proofs.Logic.{same, holds, fails, clash, by-lt, and-in, and-out}
-use Rattle.mask.proofs.Range.{each-in, each-out, some-in, some-out}
+use Rattle.mask.proofs.Range.{each-in, some-in, some-out}
 use Rattle.mask.proofs.Bits.{bit-and, bit-of-zero, bit-high}
 use Rattle.mask.proofs.Masks.{bit-not}
 use Rattle.mask.proofs.Members.{some-rest, each-rest}
 
 -- Tests that agree below a bound agree over the range.
-module _ (v : ℕ) (d f g : ℕ → Bool) (e : (k : ℕ) → k < v → f k ≡ g k) where
-  pub each-eq : each v d f ≡ each v d g
-  each-eq =
-      same (each v d f) (each v d g) (λ t. each-in v d g λ k l b. rw (← (e k l)) (each-out v d f t k l b))
-      (λ t. each-in v d f λ k l b. rw (e k l) (each-out v d g t k l b))
-
-  pub some-eq : some v d f ≡ some v d g
-  some-eq =
-      same (some v d f) (some v d g) (λ t. let r = some-out v d f t in some-in v d g (r .0) (r .1) (r .2) (rw (← (e (r .0) (r .1))) (r .3)))
-      (λ t. let r = some-out v d g t in some-in v d f (r .0) (r .1) (r .2) (rw (e (r .0) (r .1)) (r .3)))
+pub some-eq : (v : ℕ) (d f g : ℕ → Bool) → ((k : ℕ) → k < v → f k ≡ g k) → some v d f ≡ some v d g
+some-eq v d f g e =
+    same (some v d f) (some v d g) (λ t. let r = some-out v d f t in some-in v d g (r .0) (r .1) (r .2) (rw (← (e (r .0) (r .1))) (r .3)))
+    (λ t. let r = some-out v d g t in some-in v d f (r .0) (r .1) (r .2) (rw (e (r .0) (r .1)) (r .3)))
 
 -- Domains that agree.
 pub some-over : (v : ℕ) (d e f : ℕ → Bool) → ((k : ℕ) → k < v → d k ≡ e k) → some v d f ≡ some v e f

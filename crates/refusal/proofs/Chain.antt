@@ -28,6 +28,12 @@ stop s t e p q = rw q
 pub then-ok : (s t : Verdict) → s ≡ Fine → t ≡ Fine → (s then t) ≡ Fine
 then-ok s t p q = go s t p ∙ q
 
+-- What comes behind a part counts only where that part is fine.
+pub then-same : (s t u : Verdict) → (s ≡ Fine → t ≡ u) → (s then t) ≡ (s then u)
+unfolding _then_
+then-same Fine t u h = h refl
+then-same (Refused e p) t u h = refl
+
 -- One test.
 pub need-fine : (b : Bool) (e p : ℕ) → need b e p ≡ Fine → b ≡ true
 unfolding need

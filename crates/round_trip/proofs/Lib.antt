@@ -4,5 +4,5 @@ pub mod Parts
 pub mod Held
 -- What a file of written bytes holds.
 pub mod Written
--- The two round trips.
+-- The two round trips, and which lists of bytes are accepted.
 pub mod RoundTrip

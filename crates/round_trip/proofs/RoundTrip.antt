@@ -1,10 +1,12 @@
--- The two round trips, over the definitions that the contracts of reading, look-up and writing equate to.
+-- The two round trips, over the definitions that the contracts of reading, look-up and writing equate to; which lists of bytes are accepted.
 use Prim.Native.Nat.{ℕ, zero, suc, _+_, _-_, _*_, _/_, _%_, _≤_, _<_}
 use mathlib.Core.Path.{_≡_, refl, sym, ap, _∙_}
 use mathlib.Core.Bool.{Bool, true, false, cond}
 use mathlib.Core.List.{List, [], _∷_, _++_}
+use mathlib.Core.Logic.{_↔_}
 use lib.ListN.{length, getD, take, drop, replicate, length-take, length-append, length-replicate, List·getD-append}
 use lib.Seq.{ext-getD, getD-take, getD-append-add, getD-set-other, take-at}
+use native.Mathlib.Nat.{le-refl}
 use native.Mathlib.Omega.{arith}
 use borrow.Author.Tests.{le-leb}
 use Rattle.mask.proofs.Logic.{by-eq, by-lt}
@@ -26,6 +28,7 @@ use Rattle.file_bytes.specs.Bytes.{bytesOf, numbersIn, startOf, lengthOf, domai
 use Rattle.problem_writer.specs.Tests.{rulesFit, pairIn, lastIn}
 use Rattle.problem_writer.specs.Writing.{toldFor, writeTold, writeBuffer}
 use Rattle.problem_writer.proofs.Writable.{Writable, writable, write-fine, told-fine, buffer-fine}
+use Rattle.round_trip.specs.Writes.{Writes}
 use Rattle.round_trip.proofs.Parts.{variable-part, constraint-part, bytes-part}
 use Rattle.round_trip.proofs.Written.{fits-same, fileOf, file-fine, file-n, file-m, file-rules, file-domain, file-universal, file-one, file-two, file-row}
 
@@ -228,3 +231,22 @@ read-back n m rules universal domains constraints old k e =
     let w = writable n m rules universal domains constraints (length old) (t .0) in
     rw (buffer-fine n m rules universal domains constraints old (t .0), take-at (bytesOf x) (drop (length (bytesOf x)) old) k (t .1))
     (shown-back n m rules universal domains constraints (length old) w)
+
+-- ---- exactly the files of the layout
+
+-- A list of bytes is accepted exactly if it is the file of some numbers that the writer takes.
+pub accepted-exactly : (f : List ℕ) → ((k : ℕ) → getD f k 0 < 256) → (verdictOf f ≡ Fine) ↔ Writes f
+unfolding fileOf
+accepted-exactly f bytes = (
+  λ fine. record {
+    n = nOf f;
+    m = mOf f;
+    rules = rulesOf f;
+    universal = universalBits f (variablesAt f) (nOf f);
+    domains = take (nOf f) (domainsOf f);
+    constraints = constraintsShown f;
+    taken = write-fine _ _ _ _ _ _ _ (writable-shown f fine (length f) (le-refl (length f)));
+    bytes = sym (bytes-shown f fine bytes);
+  },
+  λ w. ap verdictOf (w .bytes) ∙ file-fine _ _ _ _ _ _ (length f) (writable _ _ _ _ _ _ _ (w .taken)),
+)

@@ -11,7 +11,7 @@ use borrow.Author.Tests.{eqb-true, eqb-false, ltb-true, not-true, lt-ltb, le-ltb
 use Rattle.mask.specs.Range.{each}
 use Rattle.mask.specs.Mask.{bit}
 use Rattle.mask.proofs.Logic.{holds, true-holds, by-eq}
-use Rattle.mask.proofs.Range.{each-out}
+use Rattle.mask.proofs.Range.{each-out, each-eq}
 use Rattle.mask.proofs.Bits.{bit-of-zero}
 use Rattle.refusal.specs.declared.Verdict.the-variants.{Fine}
 use Rattle.refusal.specs.Chain.{need}
@@ -84,14 +84,9 @@ unfolding lendable
 lendable-by n D l r h e = rw (eq-eqb (length l) n h) e
 
 -- Domains that agree on the n variables fit the same lists.
-each-same : (v : ℕ) (f g : ℕ → Bool) → ((i : ℕ) → i < v → f i ≡ g i) → each v (λ i. true) f ≡ each v (λ i. true) g
-unfolding each
-each-same zero f g h = refl
-each-same (suc v) f g h = ap₂ _&&_ (h v (omega arith)) (each-same v f g (λ i l. h i (omega arith)))
-
 fits-same : (n : ℕ) (D E l : List ℕ) → ((i : ℕ) → i < n → getD D i 0 ≡ getD E i 0) → lendable n D l ≡ lendable n E l
 unfolding lendable
-fits-same n D E l h = ap (λ b. eqb (length l) n && b) (each-same n (fitsAt D l) (fitsAt E l) (λ i b. ap (maskFits (getD l i 0)) (h i b)))
+fits-same n D E l h = ap (λ b. eqb (length l) n && b) (each-eq n (λ i. true) (fitsAt D l) (fitsAt E l) (λ i b. ap (maskFits (getD l i 0)) (h i b)))
 
 lend-is : (P : Problem) (l : List ℕ) → mayLend P l ≡ lendable (P .n) (P .domain) l
 unfolding mayLend lendable maskFits

@@ -1,0 +1,88 @@
+-- Two files with the same front: every test of a record that lies in it says the same of both, and a front of 17,995 bytes decides.
+use Prim.Native.Nat.{ℕ, zero, suc, _+_, _*_, _≤_, _<_}
+use mathlib.Core.Path.{_≡_, refl, ap, ap₂, _∙_}
+use mathlib.Core.Bool.{Bool, _||_, not}
+use mathlib.Core.List.{List}
+use lib.Dec.{leb, eqb}
+use native.Mathlib.Omega.{arith}
+use Rattle.refusal.specs.declared.Verdict.{Verdict}
+use Rattle.refusal.specs.declared.Verdict.the-variants.{Fine}
+use Rattle.refusal.specs.Chain.{_then_, need, only}
+use Rattle.refusal.proofs.Chain.{then-same}
+use Rattle.file_layout.specs.Layout.{QP, RS, VE, VA, CT, EN, nOf, mOf, variablesAt, domainAt, oneAt, twoAt, rowAt}
+use Rattle.file_layout.specs.Numbers.{countsFit, constraintFits}
+use Rattle.file_layout.proofs.NumberLaws.{constraints-most, fits-eq}
+use Rattle.file_layout.proofs.LayoutLaws.{start-most}
+use Rattle.file_layout.proofs.FrontLaws.{SameFront, end-front, word-front, marked-front, opened-front, start-front, domain-front, row-front, pair-front}
+use Rattle.file_records.specs.Records.{qpTest, rsTest, variableTest, variablesTest, constraintTest, lastPair, constraintsTest, enTest, restTest, verdictOf}
+use Rattle.file_records.proofs.RecordLaws.{Head, qp-out}
+
+module _ (k : ℕ) (f g : List ℕ) (s : SameFront k f g) where
+  qp-front : 5 ≤ k → qpTest f ≡ qpTest g
+  unfolding qpTest
+  qp-front h =
+      ap₂ _then_ (opened-front k f g s 0 _ _ 3 h (marked-front k f g s 0 QP (omega arith)))
+      (ap₂ (λ (n m : ℕ). need (countsFit n m) 3 0) (s .bytes 2 (omega arith)) (word-front k f g s 3 h))
+
+  rs-front : 8 ≤ k → rsTest f ≡ rsTest g
+  unfolding rsTest
+  rs-front h =
+      ap₂ only (marked-front k f g s 5 RS (omega arith))
+      (ap₂ _then_ (opened-front k f g s 5 _ _ 1 h refl) (ap (λ (r : ℕ). need (leb r 127) 8 5) (s .bytes 7 h)))
+
+  variable-front : (p : ℕ) → p + 4 ≤ k → variableTest f p ≡ variableTest g p
+  unfolding variableTest
+  variable-front p h =
+      ap₂ _then_
+      (opened-front k f g s p _ _ 2 (omega arith) (ap₂ _||_ (marked-front k f g s p VE (omega arith)) (marked-front k f g s p VA (omega arith))))
+      (ap (λ (d : ℕ). need (not (eqb d 0)) 4 p) (word-front k f g s (p + 2) (omega arith)))
+
+  variables-front : (b n : ℕ) → b + 4 * n ≤ k → variablesTest f b n ≡ variablesTest g b n
+  unfolding variablesTest
+  variables-front b zero h = refl
+  variables-front b (suc n) h = ap₂ _then_ (variables-front b n (omega arith)) (variable-front (b + 4 * n) (omega arith))
+
+  constraint-front : (b n last p : ℕ) → b + 4 * n ≤ k → p + 36 ≤ k → constraintTest f b n last p ≡ constraintTest g b n last p
+  unfolding constraintTest
+  constraint-front b n last p h l =
+      ap₂ _then_ (opened-front k f g s p _ _ 34 (omega arith) (marked-front k f g s p CT (omega arith)))
+      (ap₂ (λ (i j : ℕ). constraintFits (domainAt f b) n last i j (rowAt f p) p) (s .bytes (p + 2) (omega arith)) (s .bytes (p + 3) (omega arith))
+      ∙ fits-eq (domainAt f b) (domainAt g b) n last (oneAt g p) (twoAt g p) (rowAt f p) (rowAt g p) p
+      (λ i r. domain-front k f g s b i (omega arith)) (λ a r. row-front k f g s p a (omega arith)))
+
+  last-front : (q t : ℕ) → q + 36 * t ≤ k → lastPair f q t ≡ lastPair g q t
+  unfolding lastPair
+  last-front q zero h = refl
+  last-front q (suc t) h = pair-front k f g s (q + 36 * t) (omega arith)
+
+  constraints-front : (b n q m : ℕ) → b + 4 * n ≤ k → q + 36 * m ≤ k → constraintsTest f b n q m ≡ constraintsTest g b n q m
+  unfolding constraintsTest
+  constraints-front b n q zero h l = refl
+  constraints-front b n q (suc m) h l =
+      ap₂ _then_ (constraints-front b n q m h (omega arith))
+      (ap (λ (last : ℕ). constraintTest f b n last (q + 36 * m)) (last-front q m (omega arith)) ∙ constraint-front b n _ (q + 36 * m) h (omega arith))
+
+  en-front : (p : ℕ) → p + 2 < k → enTest f p ≡ enTest g p
+  unfolding enTest
+  en-front p h =
+      ap₂ _then_ (opened-front k f g s p _ _ 0 (omega arith) (marked-front k f g s p EN (omega arith)))
+      (ap (λ (b : Bool). need b 9 (p + 2)) (end-front k f g s (p + 2) h))
+
+  rest-front : (b n m : ℕ) → b + 4 * n + 36 * m + 2 < k → restTest f b n m ≡ restTest g b n m
+  unfolding restTest
+  rest-front b n m h =
+      ap₂ _then_ (variables-front b n (omega arith))
+      (ap₂ _then_ (constraints-front b n (b + 4 * n) m (omega arith) (omega arith)) (en-front (b + 4 * n + 36 * m) h))
+
+  -- What stands behind `QP` is looked at only where its counts are in range, and then no record ends behind byte 17,994.
+  behind-front : 17995 ≤ k → Head g → restTest f (variablesAt f) (nOf f) (mOf f) ≡ restTest g (variablesAt g) (nOf g) (mOf g)
+  behind-front h c =
+      ap (λ (b : ℕ). restTest f b (nOf f) (mOf f)) (start-front k f g s (omega arith))
+      ∙ ap₂ (λ (n m : ℕ). restTest f (variablesAt g) n m) (s .bytes 2 (omega arith)) (word-front k f g s 3 (omega arith))
+      ∙ rest-front (variablesAt g) (nOf g) (mOf g) (omega (arith, start-most g, c .counts .most, constraints-most (nOf g) (mOf g) (c .counts)))
+
+  pub verdict-front : 17995 ≤ k → verdictOf f ≡ verdictOf g
+  unfolding verdictOf
+  verdict-front h =
+      ap (λ (v : Verdict). v then rsTest f then restTest f (variablesAt f) (nOf f) (mOf f)) (qp-front (omega arith))
+      ∙ then-same (qpTest g) _ _ (λ q. ap₂ _then_ (rs-front (omega arith)) (behind-front h (qp-out g q)))

@@ -1,0 +1,20 @@
+-- f is the file of some numbers that the writer takes.
+use Prim.Native.Nat.{ℕ}
+use mathlib.Core.Path.{_≡_}
+use mathlib.Core.List.{List}
+use lib.ListN.{length}
+use Rattle.refusal.specs.declared.Verdict.the-variants.{Fine}
+use Rattle.file_layout.specs.declared.Rules.{Rules}
+use Rattle.file_bytes.specs.Bytes.{bytesOf, numbersIn}
+use Rattle.problem_writer.specs.Tests.{writeTest}
+
+-- The writer's tests are fine with a buffer as long as f.
+pub record Writes (f : List ℕ) : Type 0 where
+  pub n : ℕ
+  pub m : ℕ
+  pub rules : Rules
+  pub universal : ℕ
+  pub domains : List ℕ
+  pub constraints : List ℕ
+  pub taken : writeTest n m rules universal domains constraints (length f) ≡ Fine
+  pub bytes : f ≡ bytesOf (numbersIn n m rules universal domains constraints)
