@@ -1,26 +1,28 @@
--- What judging tells and leaves, by the tests and the run.
-use mathlib.Core.Path.{_≡_, refl, sym, ap, _∙_}
+-- What a search finds, tells and leaves, by the tests and the run; judging is its verdict.
+use mathlib.Core.Path.{_≡_, refl, sym, ap, subst, _∙_}
 use mathlib.Core.Bool.{Bool, true, false, cond}
 use mathlib.Core.List.{List, [], _∷_}
 use Prim.Native.Nat.{ℕ, _≤_}
-use lib.Dec.{T}
+use native.Mathlib.Omega.{arith}
 use lib.ListN.{length, take}
+use lib.Seq.{take-all}
 use Rattle.refusal.specs.declared.Verdict.{Verdict}
 use Rattle.refusal.specs.declared.Verdict.the-variants.{Fine}
 use Rattle.refusal.specs.declared.Verdict.the-variants.{Refused as Not}
-use Rattle.refusal.specs.Told.{replied, refused}
+use Rattle.refusal.specs.Told.{Told, replied, refused, refusedAt}
+use Rattle.rule_set.specs.declared.RuleSet.{RuleSet}
+use Rattle.rule_set.specs.RuleSet.{isRuleSet}
 use Rattle.file_layout.specs.declared.Rules.{Rules}
+use Rattle.file_records.specs.Records.{verdictOf}
 use Rattle.problem_file.specs.Reading.{domainsOf}
-use Rattle.problem_file.proofs.Accepted.{Shows}
+use Rattle.problem_file.proofs.Accepted.{Shows, accepted}
 use Rattle.game.specs.Problem.{Problem}
-use Rattle.game.specs.Position.{legal}
 use Rattle.game.specs.Winning.{verdict}
-use Rattle.game.specs.Search.{is-solved, solved, failed}
 use Rattle.theory.proofs.Theorems.{search-answers}
 use Rattle.tables.specs.FileProblem.{problemOf}
 use Rattle.tables.specs.Decoded.{Decodes}
-use Rattle.rules.specs.Alone.{Bytes}
-use Rattle.rules.proofs.ReadLaws.{read-fine, holds-of, fits-of}
+use Rattle.rules.specs.Alone.{listFor}
+use Rattle.rules.proofs.ReadLaws.{read-refused, read-fine, read-domains, holds-of, fits-of}
 use Rattle.rules.proofs.ReplyLaws.{list-refused, list-left}
 use Rattle.arrays.specs.Arrays.{InRange}
 use Rattle.position.specs.declared.Position.{Position}
@@ -30,11 +32,13 @@ use Rattle.turn_words.specs.TurnRoom.{zeroed}
 use Rattle.search_run.specs.declared.Ran.{Ran}
 use Rattle.search_run.specs.Run.{roomNeeded, Poses, Posed, Finds, Runs}
 use Rattle.judging.specs.declared.Judged.{Judged}
-use Rattle.judging.specs.declared.Judged.the-variants.{Won, Lost, Refused}
-use Rattle.judging.specs.Tests.{judgeTest}
+use Rattle.judging.specs.declared.Judged.the-variants.{Won, Lost, Refused, RefusedAt}
+use Rattle.judging.specs.declared.Searched.{Searched}
+use Rattle.judging.specs.Tests.{judgeTest, placeTest}
 use Rattle.judging.specs.Judging.{told, repliedFor, judgeReply, judgeRoom, judgeTold, judgeLeft}
-use Rattle.judging.specs.Inner.{Judges}
-use Rattle.judging.proofs.TestLaws.{test-fine, test-same}
+use Rattle.judging.specs.Searching.{Findings, found, nothing, foundFor, searchFindings, searchReply, searchFound}
+use Rattle.judging.specs.Inner.{FindsBy, Places, Searches}
+use Rattle.judging.proofs.TestLaws.{judge-fits, set-goes, set-stops, test-same}
 
 -- v is the test as the code makes it, t as the problem's.
 pub reply-refused : (v t : Verdict) (e p : ℕ) (values : List ℕ) → v ≡ Not e p → v ≡ t → refused e ≡ repliedFor t values
@@ -45,15 +49,15 @@ pub reply-told : (v t : Verdict) (r values : List ℕ) → v ≡ Fine → v ≡ 
 unfolding repliedFor
 reply-told v t r values q s e = ap replied e ∙ sym (ap (λ (w : Verdict). repliedFor w values) (sym s ∙ q))
 
--- A run is won exactly where the game is.
-solved-won : (b : Bool) (q : List ℕ) (U : ℕ) → is-solved (cond b (solved q) (failed U)) ≡ b
-solved-won true q U = refl
-solved-won false q U = refl
+found-refused : (v t : Verdict) (e p : ℕ) (o : Findings) → v ≡ Not e p → v ≡ t → nothing (refused e) ≡ foundFor t o
+unfolding foundFor
+found-refused v t e p o q s = sym (ap (λ (w : Verdict). foundFor w o) (sym s ∙ q))
 
-pub won-is : (P : Problem) (n S : ℕ) (p : Position) (r : Ran) → Finds P n S p r → T (legal P (playsOf p)) → r .won ≡ verdict P (playsOf p)
-won-is P n S p r f t = sym (ap is-solved (f .outcome) ∙ solved-won (r .won) (take n (r .leaf)) (r .conflict)) ∙ search-answers P S (playsOf p) t
+found-fine : (v t : Verdict) (r o : Findings) → v ≡ Fine → v ≡ t → r ≡ o → r ≡ foundFor t o
+unfolding foundFor
+found-fine v t r o q s e = e ∙ sym (ap (λ (w : Verdict). foundFor w o) (sym s ∙ q))
 
--- The two finished replies.
+-- The two finished verdicts.
 pub told-won : (b : Bool) → b ≡ true → told Won ≡ replied (cond b 1 0 ∷ [])
 unfolding told
 told-won b e = rw e
@@ -62,45 +66,108 @@ pub told-lost : (b : Bool) → b ≡ false → told Lost ≡ replied (cond b 1 0
 unfolding told
 told-lost b e = rw e
 
--- Over the arrays, the test being v.
-module _ (n universal : ℕ) (near index rows masks : List ℕ) (p : Position) (set : ℕ) (w : List ℕ) (v : Verdict) (tested : v ≡ judgeTest n masks p set (length w)) where
-  pub judges-refused : (e q : ℕ) → v ≡ Not e q → Judges n universal near index rows masks p set w w (Refused e)
-  unfolding told judgeReply judgeRoom
-  judges-refused e q z = λ P o.
-      let s = tested ∙ test-same P n masks (o .states .size) (o .domain) p set (length w) in (
-        reply-refused v _ e q _ z s,
-        list-refused v _ e q _ w z s,
-      )
+-- What a refused call finds.
+pub none-found : (r : Searched) (e : ℕ) → found r ≡ nothing (told (Refused e)) → found r ≡ nothing (refused e)
+unfolding told
+none-found r e q = q
 
-  pub judges-ran : (S : ℕ) (r : Ran) (w' : List ℕ) (b : Judged) → v ≡ Fine → n ≤ 32 → length (p .values) ≡ 32 → Runs n universal near index rows masks S p r → w' ≡ zeroed 0 (roomNeeded n) w
-      → told b ≡ replied (cond (r .won) 1 0 ∷ []) → Judges n universal near index rows masks p set w w' b
-  unfolding judgeReply judgeRoom
-  judges-ran S r w' b z m long f e t = λ P o.
-      let s = tested ∙ test-same P n masks (o .states .size) (o .domain) p set (length w) in
-      let g = fits-legal p n masks (test-fine n masks p set (length w) v tested z .1) m long P (o .states .size) (o .domain) in (
-        t ∙ reply-told v _ _ _ z s (ap (λ (b : Bool). cond b 1 0 ∷ []) (won-is P n S p r (f P o) g)),
-        list-left v _ w' _ w z s (e ∙ ap (λ (n : ℕ). zeroed 0 (roomNeeded n) w) (sym (o .states .size))),
-      )
+pub none-found-at : (r : Searched) (e p : ℕ) → found r ≡ nothing (told (RefusedAt e p)) → found r ≡ nothing (refusedAt e p)
+unfolding told
+none-found-at r e p q = q
+
+-- Findings that agree.
+same-findings : {t t' : Told} {b b' : Bool} {l l' : List ℕ} {c c' : ℕ} {q q' : List ℕ} → t ≡ t' → b ≡ b' → l ≡ l' → c ≡ c' → q ≡ q'
+    → _≡_ {A = Findings} (record { told = t; loss = b; list = l; conflict = c; leaf = q }) (record { told = t'; loss = b'; list = l'; conflict = c'; leaf = q' })
+same-findings {t = t} {t' = t'} {b = b} {b' = b'} {l = l} {l' = l'} {c = c} {c' = c'} {q = q} {q' = q'} u v w x y =
+    ap (λ (t : Told). record { told = t; loss = b; list = l; conflict = c; leaf = q }) u
+    ∙ ap (λ (b : Bool). record { told = t'; loss = b; list = l; conflict = c; leaf = q }) v
+    ∙ ap (λ (l : List ℕ). record { told = t'; loss = b'; list = l; conflict = c; leaf = q }) w
+    ∙ ap (λ (c : ℕ). record { told = t'; loss = b'; list = l'; conflict = c; leaf = q }) x
+    ∙ ap (λ (q : List ℕ). record { told = t'; loss = b'; list = l'; conflict = c'; leaf = q }) y
+
+ran-found : (P : Problem) (n S : ℕ) (p : Position) (r : Ran) → Finds P n S p r → (s : Searched) → told (s .judged) ≡ replied (cond (r .won) 1 0 ∷ [])
+    → s .loss ≡ r .loss → s .list ≡ r .list → s .conflict ≡ r .conflict → s .leaf ≡ r .leaf → found s ≡ searchFindings P p S
+unfolding found searchFindings
+ran-found P n S p r f s a b c d e =
+    same-findings (a ∙ ap (λ (b : Bool). replied (cond b 1 0 ∷ [])) (f .won)) (b ∙ f .loss) (c ∙ f .list) (d ∙ f .conflict) (e ∙ f .leaf)
+
+-- Over the arrays, behind the rule set, the test being v.
+module _ (n universal : ℕ) (near index rows masks : List ℕ) (p : Position) (set : ℕ) (w : List ℕ) (v : Verdict) (tested : v ≡ placeTest n masks p (length w)) where
+  pub places-refused : (e q : ℕ) (r : Searched) → v ≡ Not e q → found r ≡ nothing (told (Refused e)) → Places n universal near index rows masks p set w w r
+  places-refused e q r z f = λ P o. (none-found r e f ∙ found-refused v _ e q _ z tested, list-refused v _ e q _ w z tested)
+
+  pub places-ran : (r : Ran) (s : Searched) (w' : List ℕ) → v ≡ Fine → Runs n universal near index rows masks set p r → w' ≡ zeroed 0 (roomNeeded n) w
+      → told (s .judged) ≡ replied (cond (r .won) 1 0 ∷ []) → s .loss ≡ r .loss → s .list ≡ r .list → s .conflict ≡ r .conflict → s .leaf ≡ r .leaf
+      → Places n universal near index rows masks p set w w' s
+  places-ran r s w' z f g a b c d e = λ P o. (found-fine v _ _ _ z tested (ran-found P n set p r (f P o) s a b c d e), list-left v _ w' _ w z tested g)
+
+-- With the rule set's number.
+module _ (n universal : ℕ) (near index rows masks : List ℕ) (p : Position) (set : ℕ) (w w' : List ℕ) (r : Searched) where
+  pub searches-none : isRuleSet set ≡ false → (e : ℕ) → e ≡ 8 → w' ≡ w → found r ≡ nothing (told (Refused e)) → Searches n universal near index rows masks p set w w' r
+  searches-none z e k g f = λ P o.
+      let s = set-stops n masks p set (length w) z in
+      (none-found r e f ∙ ap (λ (e : ℕ). nothing (refused e)) k ∙ found-refused (Not 8 0) _ 8 0 _ refl (sym s), g ∙ list-refused (Not 8 0) _ 8 0 _ w refl (sym s))
+
+  pub searches-with : (c : RuleSet) → isRuleSet set ≡ true → c .bits ≡ set → Places n universal near index rows masks p (c .bits) w w' r → Searches n universal near index rows masks p set w w' r
+  searches-with c z e f = λ P o.
+      subst (λ (k : ℕ). FindsBy (judgeTest n masks p set (length w)) n universal near index rows masks p k w w' r) e
+      (subst (λ (v : Verdict). FindsBy v n universal near index rows masks p (c .bits) w w' r) (sym (set-goes n masks p set (length w) z)) f) P o
 
 -- What decoding leaves states the file's problem over the reading's domains.
 module _ (f near₀ index₀ rows₀ near index rows D : List ℕ) (n m : ℕ) (rules : Rules) (u : ℕ) (s : Shows f n m rules u)
     (d : Decodes f near₀ index₀ rows₀ near index rows) (e : D ≡ domainsOf f) where
-  pub poses-of : (bytes : Bytes f) → Poses (problemOf f bytes (s .fine)) n u near index rows D
-  unfolding problemOf
-  poses-of bytes = record {
-    states = holds-of f near₀ index₀ rows₀ near index rows D bytes n m rules u s d e .states;
-    domain = ap (λ (k : ℕ). take k (domainsOf f)) (sym (s .variables)) ∙ ap (take n) (sym e);
+  pub poses-of : Poses (problemOf f (s .fine)) n u near index rows D
+  poses-of = record {
+    states = holds-of f near₀ index₀ rows₀ near index rows D n m rules u s d e .states;
+    domain = read-domains f D n m rules u s e (d .domains (s .fine));
   }
 
-  pub ready-of : Bytes f → (n ≤ 32) × InRange index × Posed n u near index rows D
-  ready-of bytes =
+  pub ready-of : (n ≤ 32) × InRange index × Posed n u near index rows D
+  ready-of =
       let q = fits-of f near₀ index₀ rows₀ near index rows n m rules u s d in
-      (q .0, q .1, record { problem = problemOf f bytes (s .fine); poses = poses-of bytes })
+      (q .0, q .1, record { problem = problemOf f (s .fine); poses = poses-of })
 
-  -- So the arrays' reply is the file's.
-  pub judged-file : (p : Position) (set : ℕ) (w w' : List ℕ) (r : Judged) → Judges n u near index rows D p set w w' r
-      → (bytes : Bytes f) → (told r ≡ judgeTold f bytes p set (length w)) × (w' ≡ judgeLeft f bytes p set w)
-  unfolding judgeTold judgeLeft
-  judged-file p set w w' r j bytes =
-      let q = j (problemOf f bytes (s .fine)) (poses-of bytes) in
-      (q .0 ∙ sym (read-fine f bytes _ _ (s .fine)), q .1 ∙ sym (read-fine f bytes _ _ (s .fine)))
+  -- So the arrays' findings are the file's.
+  pub searched-file : (p : Position) (set : ℕ) (w w' : List ℕ) (r : Searched) → Searches n u near index rows D p set w w' r
+      → (found r ≡ searchFound f p set (length w)) × (w' ≡ judgeLeft f p set w)
+  unfolding searchFound searchReply judgeLeft judgeRoom
+  searched-file p set w w' r j =
+      let P = problemOf f (s .fine) in
+      let o = poses-of in
+      let q = j P o in
+      let t = test-same P n D (o .states .size) (o .domain) p set (length w) in (
+        q .0 ∙ ap (λ (v : Verdict). foundFor v (searchFindings P p set)) t ∙ sym (read-fine f _ _ (s .fine)),
+        q .1 ∙ ap (λ (v : Verdict). listFor v (zeroed 0 (roomNeeded n) w) w) t ∙ ap (λ (k : ℕ). listFor (judgeTest (P .n) (P .domain) p set (length w)) (zeroed 0 (roomNeeded k) w) w) (sym (o .states .size))
+            ∙ sym (read-fine f _ _ (s .fine)),
+      )
+
+-- A refused file.
+pub refused-file : (f : List ℕ) (p : Position) (set : ℕ) (w : List ℕ) (r : Searched) (e q : ℕ) → verdictOf f ≡ Not e q → found r ≡ nothing (told (RefusedAt e q))
+    → (found r ≡ searchFound f p set (length w)) × (w ≡ judgeLeft f p set w)
+unfolding searchFound judgeLeft
+refused-file f p set w r e q z g = (none-found-at r e q g ∙ sym (read-refused f _ _ e q z), sym (read-refused f _ _ e q z))
+
+-- The verdict found is the game's, under every rule set.
+pub own-domain : (P : Problem) → P .domain ≡ take (P .n) (P .domain)
+own-domain P = sym (take-all (P .n) (P .domain) (let e = P .sized in omega arith))
+
+verdict-found : (P : Problem) (p : Position) (set words : ℕ) → P .n ≤ 32 → length (p .values) ≡ 32 → searchReply P p set words .told ≡ judgeReply P p set words
+unfolding searchReply judgeReply foundFor repliedFor nothing searchFindings
+verdict-found P p set words m long = go (judgeTest (P .n) (P .domain) p set words) refl
+  where
+    go : (v : Verdict) → judgeTest (P .n) (P .domain) p set words ≡ v → foundFor v (searchFindings P p set) .told ≡ repliedFor v (cond (verdict P (playsOf p)) 1 0 ∷ [])
+    go Fine z = ap (λ (b : Bool). replied (cond b 1 0 ∷ []))
+        (search-answers P set (playsOf p) (fits-legal p (P .n) (P .domain) (judge-fits (P .n) (P .domain) p set words z) m long P refl (own-domain P)))
+    go (Not e q) z = refl
+
+-- So judging is the verdict of a search.
+pub judged-found : (f : List ℕ) (p : Position) (set words : ℕ) → length (p .values) ≡ 32 → searchFound f p set words .told ≡ judgeTold f p set words
+unfolding searchFound judgeTold nothing problemOf
+judged-found f p set words long = go (verdictOf f) refl
+  where
+    go : (v : Verdict) → verdictOf f ≡ v → searchFound f p set words .told ≡ judgeTold f p set words
+    go Fine z =
+        ap {B = Told} (λ (o : Findings). o .told) (read-fine f _ _ z)
+        ∙ verdict-found (problemOf f z) p set words (accepted f z .head .counts .most) long
+        ∙ sym (read-fine f _ _ z)
+    go (Not e q) z = ap {B = Told} (λ (o : Findings). o .told) (read-refused f _ _ e q z) ∙ sym (read-refused f _ _ e q z)

@@ -1,6 +1,6 @@
 -- The tests before a search.
 use mathlib.Core.Path.{_≡_, sym, ap, ap₂, _∙_}
-use mathlib.Core.Bool.{Bool}
+use mathlib.Core.Bool.{Bool, true, false}
 use mathlib.Core.List.{List}
 use Prim.Native.Nat.{ℕ, _≤_}
 use lib.Dec.{T}
@@ -10,35 +10,41 @@ use borrow.Author.Tests.{leb-true}
 use Rattle.mask.proofs.Logic.{true-holds}
 use Rattle.refusal.specs.declared.Verdict.{Verdict}
 use Rattle.refusal.specs.declared.Verdict.the-variants.{Fine}
+use Rattle.refusal.specs.declared.Verdict.the-variants.{Refused as Not}
 use Rattle.refusal.specs.Chain.{_then_, need}
 use Rattle.refusal.proofs.Chain.{then-fine, need-fine}
-use Rattle.rule_set.specs.RuleSet.{fullSet, isRuleSet}
+use Rattle.rule_set.specs.RuleSet.{isRuleSet}
 use Rattle.game.specs.Problem.{Problem}
 use Rattle.position.specs.declared.Position.{Position}
 use Rattle.position.specs.Position.{fitsIn}
 use Rattle.position.proofs.Fitting.{fits-same}
 use Rattle.search_run.specs.Run.{roomNeeded}
-use Rattle.judging.specs.Tests.{positionTest, roomTest, judgeTest}
+use Rattle.judging.specs.Tests.{positionTest, roomTest, judgeTest, placeTest}
 
 -- What fine tests say.
-pub position-fine : (n : ℕ) (masks : List ℕ) (p : Position) (set : ℕ) → positionTest n masks p set ≡ Fine → (set ≤ fullSet) × T (fitsIn p n masks)
-unfolding positionTest isRuleSet
-position-fine n masks p set e =
-    let b = then-fine _ _ e in
-    (leb-true set fullSet (need-fine _ _ _ (b .0)), true-holds (need-fine _ _ _ (b .1)))
-
 pub room-fine : (n words : ℕ) → roomTest n words ≡ Fine → roomNeeded n ≤ words
 unfolding roomTest
 room-fine n words e = leb-true (roomNeeded n) words (need-fine _ _ _ e)
 
 -- v being the verdict.
-pub test-fine : (n : ℕ) (masks : List ℕ) (p : Position) (set words : ℕ) (v : Verdict) → v ≡ judgeTest n masks p set words → v ≡ Fine
-    → (set ≤ fullSet) × T (fitsIn p n masks) × (roomNeeded n ≤ words)
-unfolding judgeTest
-test-fine n masks p set words v t z =
+pub place-fine : (n : ℕ) (masks : List ℕ) (p : Position) (words : ℕ) (v : Verdict) → v ≡ placeTest n masks p words → v ≡ Fine → T (fitsIn p n masks) × (roomNeeded n ≤ words)
+unfolding placeTest
+place-fine n masks p words v t z =
     let a = then-fine _ _ (sym t ∙ z) in
-    let b = position-fine n masks p set (a .0) in
-    (b .0, b .1, room-fine n words (a .1))
+    (true-holds (need-fine _ _ _ (a .0)), room-fine n words (a .1))
+
+pub judge-fits : (n : ℕ) (masks : List ℕ) (p : Position) (set words : ℕ) → judgeTest n masks p set words ≡ Fine → T (fitsIn p n masks)
+unfolding judgeTest positionTest
+judge-fits n masks p set words e = true-holds (need-fine _ _ _ (then-fine _ _ (then-fine _ _ e .0) .1))
+
+-- Behind a rule set come the other tests; a number that is none is 8.
+pub set-goes : (n : ℕ) (masks : List ℕ) (p : Position) (set words : ℕ) → isRuleSet set ≡ true → judgeTest n masks p set words ≡ placeTest n masks p words
+unfolding judgeTest placeTest positionTest need _then_
+set-goes n masks p set words e = rw e
+
+pub set-stops : (n : ℕ) (masks : List ℕ) (p : Position) (set words : ℕ) → isRuleSet set ≡ false → judgeTest n masks p set words ≡ Not 8 0
+unfolding judgeTest positionTest need _then_
+set-stops n masks p set words e = rw e
 
 -- The tests are those of the problem.
 pub position-same : (P : Problem) (n : ℕ) (masks : List ℕ) → P .n ≡ n → P .domain ≡ take n masks → (p : Position) (set : ℕ) → positionTest n masks p set ≡ positionTest (P .n) (P .domain) p set

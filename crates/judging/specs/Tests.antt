@@ -17,6 +17,9 @@ positionTest n masks p set = need (isRuleSet set) 8 0 then need (fitsIn p n mask
 unfoldable pub roomTest : ℕ → ℕ → Verdict
 roomTest n words = need (leb (roomNeeded n) words) 12 0
 
--- The tests of judging.
+-- The tests of judging; those behind the rule set's.
 unfoldable pub judgeTest : ℕ → List ℕ → Position → ℕ → ℕ → Verdict
 judgeTest n masks p set words = positionTest n masks p set then roomTest n words
+
+unfoldable pub placeTest : ℕ → List ℕ → Position → ℕ → Verdict
+placeTest n masks p words = need (fitsIn p n masks) 23 0 then roomTest n words

@@ -1,22 +1,28 @@
-// Judging a position: whether the game is won from it. `judge` is open to callers.
+// Searching and judging a position: all that a search finds, and whether the game is won. `search` and `judge` are open to
+// callers.
 ghost use mathlib.Core.Path.{_≡_};
+ghost use mathlib.Core.Bool.{cond};
+ghost use mathlib.Core.List.{[], _∷_};
 ghost use Prim.Native.Nat.{_≤_};
 ghost use lib.ListN.{length};
+ghost use Rattle.refusal.specs.Told.{replied};
 ghost use Rattle.arrays.specs.Arrays.{InRange};
-ghost use Rattle.rules.specs.Alone.{Bytes};
 ghost use Rattle.search_run.specs.Run.{Posed};
 ghost use Rattle.judging.specs.Judging.{told, judgeTold, judgeLeft};
-ghost use Rattle.judging.specs.Inner.{Judges};
+ghost use Rattle.judging.specs.Searching.{found, nothing, searchFound};
+ghost use Rattle.judging.specs.Inner.{Places, Searches};
 
 mod tests;
 
 use position::Position;
 use problem_file::Header;
 use refusal::Verdict;
+use rule_set::Chosen;
+use rule_set::RuleSet;
+use search_run::Ran;
 use search_run::run;
 use tables::decode;
-use tests::judge_test;
-pub use tests::position_test;
+use tests::place_test;
 pub use tests::room_test;
 
 // What judging replies: won or lost; refused by number; the file's refusal with its place.
@@ -27,8 +33,72 @@ pub enum Judged {
     RefusedAt(u8, usize),
 }
 
-// Judges over the arrays of a problem.
-fn judge_in(
+// What a search replies: the verdict, or why it is refused; whether the rules of the first turn found a loss, and the list
+// that they reached; the conflict set of a lost search, the leaf of a won one. What is not found is zero.
+pub struct Searched {
+    pub judged: Judged,
+    pub loss: bool,
+    pub list: [u16; 32],
+    pub conflict: u32,
+    pub leaf: [u16; 32],
+}
+
+// Nothing is found.
+fn not_searched(judged: Judged) -> Searched
+    ensures { λ r. ⌜ found r ≡ nothing (told judged) ⌝ }
+{
+    Searched {
+        judged: judged,
+        loss: false,
+        list: [0u16; 32],
+        conflict: 0,
+        leaf: [0u16; 32],
+    }
+}
+
+// The verdict of a run.
+fn verdict_of(won: bool) -> Judged
+    ensures { λ r. ⌜ told r ≡ replied (cond won 1 0 ∷ []) ⌝ }
+{
+    if won { Judged::Won } else { Judged::Lost }
+}
+
+// Searches under a rule set over the arrays of a problem.
+fn search_with(
+    near: &[u32; 32],
+    index: &[u16; 1024],
+    rows: &[u16; 15888],
+    n: usize,
+    universal: u32,
+    domains: &[u16; 32],
+    p: Position,
+    set: RuleSet,
+    room: &mut [u16],
+) -> Searched
+    requires { ⌜ (n ≤ 32) × InRange (now index) × Posed n universal (now near) (now index) (now rows) (now domains) ⌝ }
+    ensures { λ r. ⌜ Places n universal (now (near .entry)) (now (index .entry)) (now (rows .entry)) (now (domains .entry)) p (set .bits) (now (room .entry)) (now (room .exit)) r ⌝ }
+{
+    let v = place_test(n, domains, p, room.len());
+    match v {
+        Verdict::Refused(number, _) => not_searched(Judged::Refused(number)),
+        Verdict::Fine => {
+            let r = run(near, index, rows, n, universal, domains, set, p, room);
+            let judged = verdict_of(r.won);
+            let list = r.list;
+            let leaf = r.leaf;
+            Searched {
+                judged: judged,
+                loss: r.loss,
+                list: list,
+                conflict: r.conflict,
+                leaf: leaf,
+            }
+        }
+    }
+}
+
+// Searches under the rule set of this number.
+fn search_in(
     near: &[u32; 32],
     index: &[u16; 1024],
     rows: &[u16; 15888],
@@ -38,28 +108,22 @@ fn judge_in(
     p: Position,
     set: usize,
     room: &mut [u16],
-) -> Judged
+) -> Searched
     requires { ⌜ (n ≤ 32) × InRange (now index) × Posed n universal (now near) (now index) (now rows) (now domains) ⌝ }
-    ensures { λ r. ⌜ Judges n universal (now (near .entry)) (now (index .entry)) (now (rows .entry)) (now (domains .entry)) p set (now (room .entry)) (now (room .exit)) r ⌝ }
+    ensures { λ r. ⌜ Searches n universal (now (near .entry)) (now (index .entry)) (now (rows .entry)) (now (domains .entry)) p set (now (room .entry)) (now (room .exit)) r ⌝ }
 {
-    let v = judge_test(n, domains, p, set, room.len());
-    match v {
-        Verdict::Refused(number, _) => Judged::Refused(number),
-        Verdict::Fine => {
-            if run(near, index, rows, n, universal, domains, set as u8, p, room).won {
-                Judged::Won
-            } else {
-                Judged::Lost
-            }
-        }
+    let c = RuleSet::new(set);
+    match c {
+        Chosen::Refused(number) => not_searched(Judged::Refused(number)),
+        Chosen::Set(s) => { search_with(near, index, rows, n, universal, domains, p, s, room) }
     }
 }
 
-// Whether the position is won, by a search under the rule set of this number. A finished call leaves the words of the room
+// What a search from the position finds, under the rule set of this number. A finished call leaves the words of the room
 // that the search needs zero and the others as they were; a refused one leaves all.
-pub fn judge(f: &[u8], p: Position, set: usize, room: &mut [u16]) -> Judged
-    ensures { λ r. ⌜ ((bytes : Bytes (now (f .entry))) → told r ≡ judgeTold (now (f .entry)) bytes p set (length (now (room .entry)))) ⌝ }
-    ensures { λ r. ⌜ ((bytes : Bytes (now (f .entry))) → now (room .exit) ≡ judgeLeft (now (f .entry)) bytes p set (now (room .entry))) ⌝ }
+pub fn search(f: &[u8], p: Position, set: usize, room: &mut [u16]) -> Searched
+    ensures { λ r. ⌜ found r ≡ searchFound (now (f .entry)) p set (length (now (room .entry))) ⌝ }
+    ensures { λ r. ⌜ now (room .exit) ≡ judgeLeft (now (f .entry)) p set (now (room .entry)) ⌝ }
 {
     let mut near = [0u32; 32];
     let mut index = [0u16; 1024];
@@ -68,9 +132,19 @@ pub fn judge(f: &[u8], p: Position, set: usize, room: &mut [u16]) -> Judged
     let h = r.header;
     let d = r.domains;
     match h {
-        Header::Refused(number, place) => Judged::RefusedAt(number, place),
+        Header::Refused(number, place) => not_searched(Judged::RefusedAt(number, place)),
         Header::Accepted(n, _, _, u) => {
-            judge_in(&near, &index, &rows, n as usize, u, &d, p, set, room)
+            search_in(&near, &index, &rows, n as usize, u, &d, p, set, room)
         }
     }
+}
+
+// Whether the position is won: the verdict of a search under the rule set of this number, which leaves the room so.
+pub fn judge(f: &[u8], p: Position, set: usize, room: &mut [u16]) -> Judged
+    ensures { λ r. ⌜ told r ≡ judgeTold (now (f .entry)) p set (length (now (room .entry))) ⌝ }
+    ensures { λ r. ⌜ now (room .exit) ≡ judgeLeft (now (f .entry)) p set (now (room .entry)) ⌝ }
+{
+    let s = search(f, p, set, room);
+    let judged = s.judged;
+    judged
 }

@@ -21,9 +21,9 @@ use mask::contains_32;
 use mask::lowest;
 use mask::rest_of;
 use narrow_rules::narrow_next;
+use rule_set::RuleSet;
 use skip_rule::skippable_values;
 use skip_rule::untried_after;
-use turn_rules::in_use;
 use turn_rules::run_rules;
 use turn_words::clear_below;
 use turn_words::hand_down;
@@ -47,12 +47,12 @@ pub fn last_turn(
     rows: &[u16; 15888],
     n: usize,
     universal: u32,
-    set: u8,
+    set: RuleSet,
     c: usize,
     room: &mut [u16],
 ) -> Outcome
-    requires { ⌜ (n ≤ 32) × (128 ≤ length (now room)) × InRange (now index) × Blank 128 (now room) × Stands n universal (now near) (now index) (now rows) set c n (now room) ⌝ }
-    ensures { λ r. ⌜ TurnReplies n universal (now (near .entry)) (now (index .entry)) (now (rows .entry)) set c n (now (room .entry)) (now (room .exit)) r ⌝ }
+    requires { ⌜ (n ≤ 32) × (128 ≤ length (now room)) × InRange (now index) × Blank 128 (now room) × Stands n universal (now near) (now index) (now rows) (set .bits) c n (now room) ⌝ }
+    ensures { λ r. ⌜ TurnReplies n universal (now (near .entry)) (now (index .entry)) (now (rows .entry)) (set .bits) c n (now (room .entry)) (now (room .exit)) r ⌝ }
 {
     let broken = first_broken(near, index, rows, n, room);
     if broken == 0 {
@@ -67,7 +67,7 @@ pub fn last_turn(
     Outcome {
         loss: s.loss,
         won: false,
-        conflict: handed(in_use(set, 6), n, broken),
+        conflict: handed(set.uses(6), n, broken),
     }
 }
 
@@ -86,13 +86,13 @@ pub fn enter(
     rows: &[u16; 15888],
     n: usize,
     universal: u32,
-    set: u8,
+    set: RuleSet,
     c: usize,
     d: usize,
     w: &mut [u16],
 ) -> Entered
-    requires { ⌜ (n ≤ 32) × (c ≤ d) × (d < n) × (96 ≤ length (now w)) × InRange (now index) × Nonzero n (now w) × Stated n universal (now near) (now index) (now rows) × Settled n universal (now near) (now index) (now rows) set c d (now w) ⌝ }
-    ensures { λ r. ⌜ EntersTurn n universal (now (near .entry)) (now (index .entry)) (now (rows .entry)) set c d (now (w .entry)) (now (w .exit)) (r .lost) (r .conflict) (r .left) (r .narrowed) ⌝ }
+    requires { ⌜ (n ≤ 32) × (c ≤ d) × (d < n) × (96 ≤ length (now w)) × InRange (now index) × Nonzero n (now w) × Stated n universal (now near) (now index) (now rows) × Settled n universal (now near) (now index) (now rows) (set .bits) c d (now w) ⌝ }
+    ensures { λ r. ⌜ EntersTurn n universal (now (near .entry)) (now (index .entry)) (now (rows .entry)) (set .bits) c d (now (w .entry)) (now (w .exit)) (r .lost) (r .conflict) (r .left) (r .narrowed) ⌝ }
 {
     let s = run_rules(near, index, rows, n, universal, set, c, d, w);
     if s.loss {
@@ -110,8 +110,8 @@ pub fn enter(
         rows,
         n,
         universal,
-        in_use(set, 4),
-        in_use(set, 5),
+        set.uses(4),
+        set.uses(5),
         d,
         w,
     );
@@ -125,11 +125,11 @@ pub fn enter(
 }
 
 // Whether a loss below tries no further value: rule 6 is used and the conflict set lacks d.
-fn jumps(set: u8, d: usize, conflict: u32) -> bool
+fn jumps(set: RuleSet, d: usize, conflict: u32) -> bool
     requires { ⌜ d < 32 ⌝ }
-    ensures { λ r. ⌜ r ≡ (uses set 6 && not (bit conflict d)) ⌝ }
+    ensures { λ r. ⌜ r ≡ (uses (set .bits) 6 && not (bit conflict d)) ⌝ }
 {
-    if in_use(set, 6) {
+    if set.uses(6) {
         !contains_32(conflict, d)
     } else {
         false
@@ -137,34 +137,34 @@ fn jumps(set: u8, d: usize, conflict: u32) -> bool
 }
 
 // A loss that the rules found, handed up.
-fn lost_by_rules(set: u8, d: usize, conflict: u32) -> Outcome
+fn lost_by_rules(set: RuleSet, d: usize, conflict: u32) -> Outcome
     requires { ⌜ d ≤ 32 ⌝ }
-    ensures { λ r. ⌜ (r .loss ≡ true) × (r .won ≡ false) × (r .conflict ≡ handedUp (uses set 6) d conflict) ⌝ }
+    ensures { λ r. ⌜ (r .loss ≡ true) × (r .won ≡ false) × (r .conflict ≡ handedUp (uses (set .bits) 6) d conflict) ⌝ }
 {
     Outcome {
         loss: true,
         won: false,
-        conflict: handed(in_use(set, 6), d, conflict),
+        conflict: handed(set.uses(6), d, conflict),
     }
 }
 
 // A loss of the turns below handed up: the words of the turn below become zero.
-fn lost_below(set: u8, d: usize, conflict: u32, room: &mut [u16]) -> Outcome
+fn lost_below(set: RuleSet, d: usize, conflict: u32, room: &mut [u16]) -> Outcome
     requires { ⌜ (d ≤ 32) × (224 ≤ length (now room)) ⌝ }
-    ensures { λ r. ⌜ (r .loss ≡ false) × (r .won ≡ false) × (r .conflict ≡ handedUp (uses set 6) d conflict) × (now (room .exit) ≡ zeroed 128 224 (now (room .entry))) ⌝ }
+    ensures { λ r. ⌜ (r .loss ≡ false) × (r .won ≡ false) × (r .conflict ≡ handedUp (uses (set .bits) 6) d conflict) × (now (room .exit) ≡ zeroed 128 224 (now (room .entry))) ⌝ }
 {
     clear_below(room);
     Outcome {
         loss: false,
         won: false,
-        conflict: handed(in_use(set, 6), d, conflict),
+        conflict: handed(set.uses(6), d, conflict),
     }
 }
 
 // The same after a leaf was taken up: the leaf becomes zero too.
-fn lost_after(set: u8, d: usize, conflict: u32, room: &mut [u16]) -> Outcome
+fn lost_after(set: RuleSet, d: usize, conflict: u32, room: &mut [u16]) -> Outcome
     requires { ⌜ (d ≤ 32) × (224 ≤ length (now room)) ⌝ }
-    ensures { λ r. ⌜ (r .loss ≡ false) × (r .won ≡ false) × (r .conflict ≡ handedUp (uses set 6) d conflict) × (now (room .exit) ≡ zeroed 128 224 (zeroed 96 128 (now (room .entry)))) ⌝ }
+    ensures { λ r. ⌜ (r .loss ≡ false) × (r .won ≡ false) × (r .conflict ≡ handedUp (uses (set .bits) 6) d conflict) × (now (room .exit) ≡ zeroed 128 224 (zeroed 96 128 (now (room .entry)))) ⌝ }
 {
     zero_words(96, 128, room);
     lost_below(set, d, conflict, room)
@@ -199,20 +199,20 @@ fn untried_next(
     rows: &[u16; 15888],
     n: usize,
     universal: u32,
-    set: u8,
+    set: RuleSet,
     d: usize,
     left: u16,
     a: usize,
     w: &[u16],
 ) -> u16
     requires { ⌜ (n ≤ 32) × (d < n) × (a < 16) × (128 ≤ length (now w)) × InRange (now index) × LeafHolds n (now near) (now index) (now rows) (now w) ⌝ }
-    ensures { λ r. ⌜ LeavesUntried n universal (now (near .entry)) (now (index .entry)) (now (rows .entry)) set d left a (now (w .entry)) r ⌝ }
+    ensures { λ r. ⌜ LeavesUntried n universal (now (near .entry)) (now (index .entry)) (now (rows .entry)) (set .bits) d left a (now (w .entry)) r ⌝ }
 {
     let m = untried_after(left, a, 0);
     if m == 0 {
         return 0;
     }
-    if in_use(set, 7) {
+    if set.uses(7) {
         return untried_after(
             left,
             a,
@@ -229,13 +229,13 @@ pub fn existential_turn(
     rows: &[u16; 15888],
     n: usize,
     universal: u32,
-    set: u8,
+    set: RuleSet,
     c: usize,
     d: usize,
     room: &mut [u16],
 ) -> Outcome
-    requires { ⌜ (n ≤ 32) × (d < n) × (bit universal d ≡ false) × (roomOf n d ≤ length (now room)) × InRange (now index) × Blank (roomOf n d) (now room) × Stands n universal (now near) (now index) (now rows) set c d (now room) ⌝ }
-    ensures { λ r. ⌜ TurnReplies n universal (now (near .entry)) (now (index .entry)) (now (rows .entry)) set c d (now (room .entry)) (now (room .exit)) r ⌝ }
+    requires { ⌜ (n ≤ 32) × (d < n) × (bit universal d ≡ false) × (roomOf n d ≤ length (now room)) × InRange (now index) × Blank (roomOf n d) (now room) × Stands n universal (now near) (now index) (now rows) (set .bits) c d (now room) ⌝ }
+    ensures { λ r. ⌜ TurnReplies n universal (now (near .entry)) (now (index .entry)) (now (rows .entry)) (set .bits) c d (now (room .entry)) (now (room .exit)) r ⌝ }
 {
     let e = enter(near, index, rows, n, universal, set, c, d, room);
     if e.lost {
@@ -292,13 +292,13 @@ pub fn universal_turn(
     rows: &[u16; 15888],
     n: usize,
     universal: u32,
-    set: u8,
+    set: RuleSet,
     c: usize,
     d: usize,
     room: &mut [u16],
 ) -> Outcome
-    requires { ⌜ (n ≤ 32) × (d < n) × (bit universal d ≡ true) × (roomOf n d ≤ length (now room)) × InRange (now index) × Blank (roomOf n d) (now room) × Stands n universal (now near) (now index) (now rows) set c d (now room) ⌝ }
-    ensures { λ r. ⌜ TurnReplies n universal (now (near .entry)) (now (index .entry)) (now (rows .entry)) set c d (now (room .entry)) (now (room .exit)) r ⌝ }
+    requires { ⌜ (n ≤ 32) × (d < n) × (bit universal d ≡ true) × (roomOf n d ≤ length (now room)) × InRange (now index) × Blank (roomOf n d) (now room) × Stands n universal (now near) (now index) (now rows) (set .bits) c d (now room) ⌝ }
+    ensures { λ r. ⌜ TurnReplies n universal (now (near .entry)) (now (index .entry)) (now (rows .entry)) (set .bits) c d (now (room .entry)) (now (room .exit)) r ⌝ }
 {
     let e = enter(near, index, rows, n, universal, set, c, d, room);
     if e.lost {

@@ -13,6 +13,7 @@ use mask::contains_32;
 use mask::single_32;
 use position::Position;
 use position::narrowed_domains;
+use rule_set::RuleSet;
 use search::Outcome;
 use search::existential_turn;
 use search::last_turn;
@@ -47,12 +48,12 @@ pub fn first_turn(
     rows: &[u16; 15888],
     n: usize,
     universal: u32,
-    set: u8,
+    set: RuleSet,
     d: usize,
     room: &mut [u16],
 ) -> Outcome
-    requires { ⌜ (n ≤ 32) × (d ≤ n) × (roomOf n d ≤ length (now room)) × InRange (now index) × Blank (roomOf n d) (now room) × Stands n universal (now near) (now index) (now rows) set 0 d (now room) ⌝ }
-    ensures { λ r. ⌜ TurnReplies n universal (now (near .entry)) (now (index .entry)) (now (rows .entry)) set 0 d (now (room .entry)) (now (room .exit)) r ⌝ }
+    requires { ⌜ (n ≤ 32) × (d ≤ n) × (roomOf n d ≤ length (now room)) × InRange (now index) × Blank (roomOf n d) (now room) × Stands n universal (now near) (now index) (now rows) (set .bits) 0 d (now room) ⌝ }
+    ensures { λ r. ⌜ TurnReplies n universal (now (near .entry)) (now (index .entry)) (now (rows .entry)) (set .bits) 0 d (now (room .entry)) (now (room .exit)) r ⌝ }
 {
     if d == n {
         return last_turn(near, index, rows, n, universal, set, 0, room);

@@ -19,6 +19,7 @@ use first::first_words;
 use first::leaf_of;
 use first::list_of;
 use position::Position;
+use rule_set::RuleSet;
 use search::Outcome;
 use turn_words::zero_words;
 
@@ -54,12 +55,12 @@ fn run_in(
     n: usize,
     universal: u32,
     domains: &[u16; 32],
-    set: u8,
+    set: RuleSet,
     p: Position,
     room: &mut [u16],
 ) -> Ran
     requires { ⌜ (n ≤ 32) × T (fitsIn p n (now domains)) × (roomOf n (p .plays) ≤ length (now room)) × InRange (now index) × ZeroBelow (roomOf n (p .plays)) (now room) × Posed n universal (now near) (now index) (now rows) (now domains) ⌝ }
-    ensures { λ r. ⌜ Runs n universal (now (near .entry)) (now (index .entry)) (now (rows .entry)) (now (domains .entry)) set p r × (now (room .exit) ≡ now (room .entry)) ⌝ }
+    ensures { λ r. ⌜ Runs n universal (now (near .entry)) (now (index .entry)) (now (rows .entry)) (now (domains .entry)) (set .bits) p r × (now (room .exit) ≡ now (room .entry)) ⌝ }
 {
     let d = p.plays;
     first_words(p, n, domains, room);
@@ -85,12 +86,12 @@ pub fn run(
     n: usize,
     universal: u32,
     domains: &[u16; 32],
-    set: u8,
+    set: RuleSet,
     p: Position,
     room: &mut [u16],
 ) -> Ran
     requires { ⌜ (n ≤ 32) × T (fitsIn p n (now domains)) × (roomNeeded n ≤ length (now room)) × InRange (now index) × Posed n universal (now near) (now index) (now rows) (now domains) ⌝ }
-    ensures { λ r. ⌜ Runs n universal (now (near .entry)) (now (index .entry)) (now (rows .entry)) (now (domains .entry)) set p r × (now (room .exit) ≡ zeroed 0 (roomNeeded n) (now (room .entry))) ⌝ }
+    ensures { λ r. ⌜ Runs n universal (now (near .entry)) (now (index .entry)) (now (rows .entry)) (now (domains .entry)) (set .bits) p r × (now (room .exit) ≡ zeroed 0 (roomNeeded n) (now (room .entry))) ⌝ }
 {
     zero_words(0, room_needed(n), room);
     let d = p.plays;

@@ -15,9 +15,9 @@ use arc_rule::everyone;
 use forward_rule::forward;
 use forward_rule::forward_conflict;
 use forward_rule::look_ahead;
-use mask::contains;
 use mask::lowest;
 use mask::single_32;
+use rule_set::RuleSet;
 
 // What the rules of a turn say: a loss with its conflict set, or none; and the variables other than the plays that rule 2
 // took values from.
@@ -87,22 +87,14 @@ fn check_plays(
     }
 }
 
-// Whether the rule set uses the rule.
-pub fn in_use(set: u8, rule: usize) -> bool
-    requires { ⌜ (1 ≤ rule) × (rule ≤ 8) ⌝ }
-    ensures { λ r. ⌜ r ≡ uses set rule ⌝ }
-{
-    contains(set as u16, rule - 1)
-}
-
 // Whether look ahead is used after d plays and may find a loss: beside rule 1 it finds none.
-fn ahead_used(set: u8, n: usize, d: usize) -> bool
-    ensures { λ r. ⌜ r ≡ (not (uses set 1) && (ltb d n && uses set 3)) ⌝ }
+fn ahead_used(set: RuleSet, n: usize, d: usize) -> bool
+    ensures { λ r. ⌜ r ≡ (not (uses (set .bits) 1) && (ltb d n && uses (set .bits) 3)) ⌝ }
 {
-    if in_use(set, 1) {
+    if set.uses(1) {
         return false;
     }
-    if d < n { in_use(set, 3) } else { false }
+    if d < n { set.uses(3) } else { false }
 }
 
 // Rule 2 where it is on.
@@ -238,21 +230,21 @@ pub fn run_rules(
     rows: &[u16; 15888],
     n: usize,
     universal: u32,
-    set: u8,
+    set: RuleSet,
     c: usize,
     d: usize,
     w: &mut [u16],
 ) -> Said
-    requires { ⌜ (n ≤ 32) × (c ≤ d) × (d ≤ n) × (96 ≤ length (now w)) × InRange (now index) × Nonzero n (now w) × Stated n universal (now near) (now index) (now rows) × Settled n universal (now near) (now index) (now rows) set c d (now w) ⌝ }
-    ensures { λ r. ⌜ RuledTurn n universal (now (near .entry)) (now (index .entry)) (now (rows .entry)) set c d (now (w .entry)) (now (w .exit)) (r .loss) (r .conflict) × Lasting n (now (w .exit)) (r .loss) ⌝ }
+    requires { ⌜ (n ≤ 32) × (c ≤ d) × (d ≤ n) × (96 ≤ length (now w)) × InRange (now index) × Nonzero n (now w) × Stated n universal (now near) (now index) (now rows) × Settled n universal (now near) (now index) (now rows) (set .bits) c d (now w) ⌝ }
+    ensures { λ r. ⌜ RuledTurn n universal (now (near .entry)) (now (index .entry)) (now (rows .entry)) (set .bits) c d (now (w .entry)) (now (w .exit)) (r .loss) (r .conflict) × Lasting n (now (w .exit)) (r .loss) ⌝ }
 {
-    let checked = in_use(set, 2);
+    let checked = set.uses(2);
     let s = rule_turn(2, near, index, rows, n, universal, checked, 0, c, d, w);
     if s.loss {
         return s;
     }
     let changed = changed_by(n, c, d, checked, s.narrowed);
-    let used = in_use(set, 1);
+    let used = set.uses(1);
     let a = rule_turn(1, near, index, rows, n, universal, used, changed, c, d, w);
     if a.loss {
         return a;

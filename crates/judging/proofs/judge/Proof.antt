@@ -1,48 +1,25 @@
 use borrow.Author.Needs.{needs}
-use mathlib.Core.Path.{sym, ap, _∙_}
-use native.Mathlib.Omega.{arith}
-use Rattle.judging.proofs.JudgeLaws.{ready-of, judged-file}
-use Rattle.judging.specs.Judging.{told, judgeTold, judgeLeft}
-use Rattle.problem_file.proofs.Accepted.{header-shows, header-refuses}
-use Rattle.problem_file.specs.Reading.{told as toldHeader}
-use Rattle.rules.proofs.ReadLaws.{read-refused}
+use lib.ListN.{length}
+use mathlib.Core.Path.{_≡_, ap, _∙_}
+use Rattle.refusal.specs.Told.{Told}
+use Rattle.judging.specs.Searching.{Findings, found}
+use Rattle.judging.proofs.JudgeLaws.{judged-found}
 use Rattle.judging.proofs.judge.Statement.{statement}
 use Rattle.judging.proofs.judge.Tie as tie
 
-decode-requires : tie.Need-decode-requires
-decode-requires c κs = search needs
+-- The places of the position.
+long : (s : tie.Start) → length (s .args .p .values) ≡ 32
+long s = search needs
 
-enum-known-h : tie.Need-enum-known-h
-enum-known-h c = search needs
-
-enum-known-h-2 : tie.Need-enum-known-h-2
-enum-known-h-2 c = search needs
-
-cast-judge-in : tie.Need-cast-judge-in
-cast-judge-in c = search needs
-
-judge-in-requires : tie.Need-judge-in-requires
-judge-in-requires c κs = ready-of _ _ _ _ _ _ _ _ _ _ _ _ (header-shows _ _ _ _ _ (ap toldHeader (sym (c .before .before .before .before .before .before .h2 .given .1)) ∙ c .before .before .before .before .before .before .before .before .before .decode .ensures .0 .0)) (c .before .before .before .before .before .before .before .before .before .decode .ensures .1) (c .before .before .before .before .before .before .before .before .before .decode .ensures .0 .1) (λ k. omega (arith, c .before .before .before .before .before .before .before .before .before .before .before .before .before .before .shared-slice-known .given k))
-
-returns : tie.Need-returns
-unfolding told judgeTold judgeLeft
-returns c = let q = header-refuses _ _ _ (ap toldHeader (sym (c .before .h .given .1)) ∙ c .before .before .before .before .decode .ensures .0 .0) in (λ bytes. sym (read-refused _ bytes _ _ _ _ q), λ bytes. sym (read-refused _ bytes _ _ _ _ q))
+search-requires : tie.Need-search-requires
+search-requires c κs = search needs
 
 same-length : tie.Need-same-length
 same-length c = search needs
 
-returns-2 : tie.Need-returns-2
-returns-2 c = let j = judged-file _ _ _ _ _ _ _ _ _ _ _ _ (header-shows _ _ _ _ _ (ap toldHeader (sym (c .before .before .before .before .before .before .before .before .before .h2 .given .1)) ∙ c .before .before .before .before .before .before .before .before .before .before .before .before .decode .ensures .0 .0)) (c .before .before .before .before .before .before .before .before .before .before .before .before .decode .ensures .1) (c .before .before .before .before .before .before .before .before .before .before .before .before .decode .ensures .0 .1) _ _ _ _ _ (c .before .before .judge-in .ensures) in (λ bytes. j bytes .0, λ bytes. j bytes .1)
+returns : tie.Need-returns
+unfolding found
+returns c = let s = c .before .before .search .ensures in (ap {B = Told} (λ (o : Findings). o .told) (s .0) ∙ judged-found _ _ _ _ (long (c .before .before .before .before .before .before)), s .1)
 
 pub judge-spec : {M : Type 1} → statement M
-judge-spec =
-    tie.close
-    (tie.spec
-    decode-requires
-    enum-known-h
-    enum-known-h-2
-    cast-judge-in
-    judge-in-requires
-    returns
-    same-length
-    returns-2)
+judge-spec = tie.close (tie.spec search-requires same-length returns)

@@ -94,7 +94,7 @@ E-calls t = (
 )
 
 abbrev E-Inv : E.InvT-loop
-E-Inv near index rows n universal set c d room₀ j₀ left₀ room j left = SomeLoop n universal near index rows set d (roomOf n d) room₀ j₀ left₀ room j left
+E-Inv near index rows n universal set c d room₀ j₀ left₀ room j left = SomeLoop n universal near index rows (set .bits) d (roomOf n d) room₀ j₀ left₀ room j left
 
 abbrev E-μ : E.MeasureT-loop
 E-μ near index rows n universal set c d room₀ j₀ left₀ room j left = left
@@ -103,7 +103,7 @@ module _ (t : ℕ) where
   E-after : (c : E.After-enter (E-calls t) (existential-turn-at t) existential-turn.Post E-Inv E-μ) →
       let a = c .before .before .before .args in
       let o = c .enter .result in
-      AfterRules (a .n) (a .universal) (a .near .now) (a .index .now) (a .rows .now) (a .set) (a .c) (a .d) (a .room .now) (c .enter .last .1 .1 .1 .1 .1 .1 .1 .1 .0) (o .lost) (o .conflict) (o .left) (o .narrowed)
+      AfterRules (a .n) (a .universal) (a .near .now) (a .index .now) (a .rows .now) (a .set .bits) (a .c) (a .d) (a .room .now) (c .enter .last .1 .1 .1 .1 .1 .1 .1 .1 .0) (o .lost) (o .conflict) (o .left) (o .narrowed)
   E-after c =
       let s = c .before .before .before .pre .1 in
       record { most = s .0; unplayed = s .1; fits = s .3; blank = s .5; stands = s .6; small = λ k. omega (arith, c .before .before .slice-known .given k); rules = c .enter .ensures }
@@ -120,7 +120,7 @@ module _ (t : ℕ) where
   -- The three turns below meet.
   E-answered : (c : E.Joined2 (E-calls t) (existential-turn-at t) existential-turn.Post E-Inv E-μ) →
       let a = c .before .before .before .before .before .before .before .before .before .before .before .before .before .before .before .before .args in
-      Answered (a .n) (a .universal) (a .near .now) (a .index .now) (a .rows .now) (a .set) (a .d) (c .before .before .before .hand-down .last .1 .1 .0) (c .if2 .room) (c .if2 .o)
+      Answered (a .n) (a .universal) (a .near .now) (a .index .now) (a .rows .now) (a .set .bits) (a .d) (c .before .before .before .hand-down .last .1 .1 .0) (c .if2 .room) (c .if2 .o)
   E-answered c = ⊎-elim
       (λ w. answered (last-replies _ _ _ _ _ _ _ _ _ (w .0 .taken) _ _ (w .2 .ensures)) (w .5) (w .6))
       (⊎-elim (λ w. answered (w .4 .ensures) (w .7) (w .8)) (λ w. answered (w .4 .ensures) (w .7) (w .8)))
@@ -157,7 +157,7 @@ U-calls t = (
 )
 
 abbrev U-Inv : U.InvT-loop
-U-Inv near index rows n universal set c d room₀ left₀ room left = EachLoop n universal near index rows set d (roomOf n d) room₀ left₀ room left
+U-Inv near index rows n universal set c d room₀ left₀ room left = EachLoop n universal near index rows (set .bits) d (roomOf n d) room₀ left₀ room left
 
 abbrev U-μ : U.MeasureT-loop
 U-μ near index rows n universal set c d room₀ left₀ room left = 16 - first 16 (bit left)
@@ -166,7 +166,7 @@ module _ (t : ℕ) where
   U-after : (c : U.After-enter (U-calls t) (universal-turn-at t) universal-turn.Post U-Inv U-μ) →
       let a = c .before .before .before .args in
       let o = c .enter .result in
-      AfterRules (a .n) (a .universal) (a .near .now) (a .index .now) (a .rows .now) (a .set) (a .c) (a .d) (a .room .now) (c .enter .last .1 .1 .1 .1 .1 .1 .1 .1 .0) (o .lost) (o .conflict) (o .left) (o .narrowed)
+      AfterRules (a .n) (a .universal) (a .near .now) (a .index .now) (a .rows .now) (a .set .bits) (a .c) (a .d) (a .room .now) (c .enter .last .1 .1 .1 .1 .1 .1 .1 .1 .0) (o .lost) (o .conflict) (o .left) (o .narrowed)
   U-after c =
       let s = c .before .before .before .pre .1 in
       record { most = s .0; unplayed = s .1; fits = s .3; blank = s .5; stands = s .6; small = λ k. omega (arith, c .before .before .slice-known .given k); rules = c .enter .ensures }
@@ -183,7 +183,7 @@ module _ (t : ℕ) where
   -- The three turns below meet.
   U-answered : (c : U.Joined2 (U-calls t) (universal-turn-at t) universal-turn.Post U-Inv U-μ) →
       let a = c .before .before .before .before .before .before .before .before .before .before .before .before .before .before .args in
-      Answered (a .n) (a .universal) (a .near .now) (a .index .now) (a .rows .now) (a .set) (a .d) (c .before .before .before .hand-down .last .1 .1 .0) (c .if2 .room) (c .if2 .o)
+      Answered (a .n) (a .universal) (a .near .now) (a .index .now) (a .rows .now) (a .set .bits) (a .d) (c .before .before .before .hand-down .last .1 .1 .0) (c .if2 .room) (c .if2 .o)
   U-answered c = ⊎-elim
       (λ w. answered (last-replies _ _ _ _ _ _ _ _ _ (w .0 .taken) _ _ (w .2 .ensures)) (w .5) (w .6))
       (⊎-elim (λ w. answered (w .4 .ensures) (w .7) (w .8)) (λ w. answered (w .4 .ensures) (w .7) (w .8)))

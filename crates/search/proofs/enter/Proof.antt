@@ -20,11 +20,11 @@ mul-before c = search needs
 slice-read-before : tie.Need-slice-read-before
 slice-read-before c = search needs
 
-in-use-requires : tie.Need-in-use-requires
-in-use-requires c κs = search needs
+uses-requires : tie.Need-uses-requires
+uses-requires c κs = search needs
 
-in-use-requires-2 : tie.Need-in-use-requires-2
-in-use-requires-2 c κs = search needs
+uses-requires-2 : tie.Need-uses-requires-2
+uses-requires-2 c κs = search needs
 
 narrow-next-requires : tie.Need-narrow-next-requires
 narrow-next-requires c κs = search needs
@@ -40,7 +40,7 @@ same-length-2 c = search needs
 
 returns-2 : tie.Need-returns-2
 returns-2 c =
-    λ P st p s. enters-on P _ _ _ _ _ st _ _ _ p _ (c .before .before .before .before .before .before .before .before .before .before .before .before .before .before .pre .3) _ _ _ _ (c .before .before .before .before .before .before .before .before .before .before .before .run-rules .ensures .0 P st p s) (c .before .before .before .before .before .before .before .before .if1 .left) (c .before .before .before .before .before .before .before .before .before .before .before .before .before .before .pre .2) _ _ (c .before .before .before .before .before .before .in-use .ensures) (c .before .before .before .before .before .in-use2 .ensures) (c .before .before .before .narrow-next .ensures) _ _ _ refl refl refl _
+    λ P st p s. enters-on P _ _ _ _ _ st _ _ _ p _ (c .before .before .before .before .before .before .before .before .before .before .before .before .before .before .pre .3) _ _ _ _ (c .before .before .before .before .before .before .before .before .before .before .before .run-rules .ensures .0 P st p s) (c .before .before .before .before .before .before .before .before .if1 .left) (c .before .before .before .before .before .before .before .before .before .before .before .before .before .before .pre .2) _ _ (c .before .before .before .before .before .before .uses .ensures) (c .before .before .before .before .before .uses2 .ensures) (c .before .before .before .narrow-next .ensures) _ _ _ refl refl refl _
 
 pub enter-spec : {M : Type 1} → statement M
 enter-spec =
@@ -51,8 +51,8 @@ enter-spec =
     returns
     mul-before
     slice-read-before
-    in-use-requires
-    in-use-requires-2
+    uses-requires
+    uses-requires-2
     narrow-next-requires
     mul-left
     slice-read-left

@@ -42,8 +42,8 @@ run-rules-requires c κs =
     let s = c .before .before .before .before .before .pre in
     (s .0, checked _ _ _ _ _ _ _ _ _ (s .4), search needs, search needs, s .2, nonzero _ _ _ _ _ _ _ _ _ (s .4), stated _ _ _ _ _ _ _ _ _ (s .4), settled _ _ _ _ _ _ _ _ _ (words (c .before .before .before .before)) (s .4))
 
-in-use-requires : tie.Need-in-use-requires
-in-use-requires c κs = search needs
+uses-requires : tie.Need-uses-requires
+uses-requires c κs = search needs
 
 handed-requires : tie.Need-handed-requires
 handed-requires c κs = search needs
@@ -60,7 +60,7 @@ returns-2 c =
     let own = rules (q .problem) (q .states) (q .plays) (plays-in (q .problem) _ _ _ _ _ (q .states) _ _ _ (q .plays) _ small (q .turn)) in
     record {
       reach = λ P st p t. rules-reach P _ _ _ _ _ st _ _ _ p _ _ t refl _ _ (omega (arith, s .1)) (rules P st p (plays-in P _ _ _ _ _ st _ _ _ p _ small t));
-      reply = λ P st p t. last-lost P _ _ _ _ _ st _ _ p _ small t _ (c .before .before .before .before .before .before .before .first-broken .ensures) (c .before .before .before .before .before .before .if1 .left) _ (c .before .in-use .ensures) _ (c .handed .ensures) _;
+      reply = λ P st p t. last-lost P _ _ _ _ _ st _ _ p _ small t _ (c .before .before .before .before .before .before .before .first-broken .ensures) (c .before .before .before .before .before .before .if1 .left) _ (c .before .uses .ensures) _ (c .handed .ensures) _;
       room = leaves-lost _ _ _ (s .0) (s .1) (s .3) (replied-size own) (replied-behind (s .0) own);
     }
 
@@ -73,7 +73,7 @@ last-turn-spec =
     same-length
     returns
     run-rules-requires
-    in-use-requires
+    uses-requires
     handed-requires
     same-length-2
     returns-2)

@@ -7,8 +7,8 @@ use Rattle.search.proofs.lost_below.Tie as tie
 clear-below-requires : tie.Need-clear-below-requires
 clear-below-requires c κs = search needs
 
-in-use-requires : tie.Need-in-use-requires
-in-use-requires c κs = search needs
+uses-requires : tie.Need-uses-requires
+uses-requires c κs = search needs
 
 handed-requires : tie.Need-handed-requires
 handed-requires c κs = search needs
@@ -18,8 +18,8 @@ same-length c = search needs
 
 returns : tie.Need-returns
 returns c =
-    (refl, refl, handed-by _ _ _ _ _ (c .before .in-use .ensures) (c .handed .ensures), c .before .before .before .before .clear-below .ensures)
+    (refl, refl, handed-by _ _ _ _ _ (c .before .uses .ensures) (c .handed .ensures), c .before .before .before .before .clear-below .ensures)
 
 pub lost-below-spec : {M : Type 1} → statement M
 lost-below-spec =
-    tie.close (tie.spec clear-below-requires in-use-requires handed-requires same-length returns)
+    tie.close (tie.spec clear-below-requires uses-requires handed-requires same-length returns)

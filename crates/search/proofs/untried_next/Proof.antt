@@ -9,8 +9,8 @@ untried-after-requires c κs = search needs
 returns : tie.Need-returns
 returns c = leaves-none _ _ _ _ _ _ _ _ _ _ _ (c .before .untried-after .ensures) (c .if1 .taken)
 
-in-use-requires : tie.Need-in-use-requires
-in-use-requires c κs = search needs
+uses-requires : tie.Need-uses-requires
+uses-requires c κs = search needs
 
 skippable-values-requires : tie.Need-skippable-values-requires
 skippable-values-requires c κs = search needs
@@ -21,12 +21,12 @@ untried-after-requires-2 c κs = search needs
 returns-2 : tie.Need-returns-2
 returns-2 c =
     let d = c .before .before .before in
-    leaves-used _ _ _ _ _ _ _ _ _ _ _ (d .before .before .untried-after .ensures) _ (d .in-use .ensures) (c .before .before .if2 .taken) _ _ (c .before .skippable-values .ensures) (c .untried-after2 .ensures)
+    leaves-used _ _ _ _ _ _ _ _ _ _ _ (d .before .before .untried-after .ensures) _ (d .uses .ensures) (c .before .before .if2 .taken) _ _ (c .before .skippable-values .ensures) (c .untried-after2 .ensures)
 
 returns-3 : tie.Need-returns-3
 returns-3 c =
     let d = c .before in
-    leaves-off _ _ _ _ _ _ _ _ _ _ _ (d .before .before .untried-after .ensures) _ (d .in-use .ensures) (c .if2 .left)
+    leaves-off _ _ _ _ _ _ _ _ _ _ _ (d .before .before .untried-after .ensures) _ (d .uses .ensures) (c .if2 .left)
 
 pub untried-next-spec : {M : Type 1} → statement M
 untried-next-spec =
@@ -34,7 +34,7 @@ untried-next-spec =
     (tie.spec
     untried-after-requires
     returns
-    in-use-requires
+    uses-requires
     skippable-values-requires
     untried-after-requires-2
     returns-2

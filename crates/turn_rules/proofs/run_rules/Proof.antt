@@ -8,8 +8,8 @@ use borrow.Author.Needs.{needs}
 use Rattle.turn_rules.proofs.run_rules.Statement.{statement}
 use Rattle.turn_rules.proofs.run_rules.Tie as tie
 
-in-use-requires : tie.Need-in-use-requires
-in-use-requires c κs = search needs
+uses-requires : tie.Need-uses-requires
+uses-requires c κs = search needs
 
 -- Rule 1 is not rule 2.
 other : ¬ (_≡_ {A = ℕ} 1 2)
@@ -26,15 +26,15 @@ returns c =
     let d = c .before .before .before in
     let p = d .before .before .before .before .pre in
     let t = c .if1 .taken in (
-      λ P st q s. turn-checked P _ _ _ _ _ st _ _ _ q _ s (p .3) _ (d .before .before .in-use .ensures) _ _ _ (d .rule-turn .ensures .0 .checks refl P st q s) t,
+      λ P st q s. turn-checked P _ _ _ _ _ st _ _ _ q _ s (p .3) _ (d .before .before .uses .ensures) _ _ _ (d .rule-turn .ensures .0 .checks refl P st q s) t,
       λ f. absurd (true-holds (sym f ∙ t)),
     )
 
 changed-by-requires : tie.Need-changed-by-requires
 changed-by-requires c κs = search needs
 
-in-use-requires-2 : tie.Need-in-use-requires-2
-in-use-requires-2 c κs = search needs
+uses-requires-2 : tie.Need-uses-requires-2
+uses-requires-2 c κs = search needs
 
 rule-turn-requires-2 : tie.Need-rule-turn-requires-2
 rule-turn-requires-2 c κs =
@@ -48,7 +48,7 @@ rule-turn-requires-2 c κs =
       p .4,
       d .rule-turn .ensures .1 f,
       p .6,
-      λ _. calm-after _ _ _ _ _ _ _ _ _ _ _ _ (λ k. omega (arith, c .before .before .before .before .slice-known2 .given k)) (p .7) (d .rule-turn .ensures .0 .moved refl f) _ (d .rule-turn .ensures .0 .heeded refl f) (c .before .before .changed-by .ensures) _ (c .before .in-use2 .ensures),
+      λ _. calm-after _ _ _ _ _ _ _ _ _ _ _ _ (λ k. omega (arith, c .before .before .before .before .slice-known2 .given k)) (p .7) (d .rule-turn .ensures .0 .moved refl f) _ (d .rule-turn .ensures .0 .heeded refl f) (c .before .before .changed-by .ensures) _ (c .before .uses2 .ensures),
     )
 
 same-length-2 : tie.Need-same-length-2
@@ -60,8 +60,8 @@ returns-2 c =
     let d = e .before .before .before .before .before .before .before in
     let p = d .before .before .before .before .pre in
     let t = c .if2 .taken in (
-      λ P st q s. turn-narrowed P _ _ _ _ _ st _ _ _ q _ s (p .3) _ (d .before .before .in-use .ensures) _ _ _ (d .rule-turn .ensures .0 .checks refl P st q s) (e .before .before .before .before .if1 .left)
-          _ (e .before .before .in-use2 .ensures) _ _ _ (e .rule-turn2 .ensures .0 .arcs other P st) t,
+      λ P st q s. turn-narrowed P _ _ _ _ _ st _ _ _ q _ s (p .3) _ (d .before .before .uses .ensures) _ _ _ (d .rule-turn .ensures .0 .checks refl P st q s) (e .before .before .before .before .if1 .left)
+          _ (e .before .before .uses2 .ensures) _ _ _ (e .rule-turn2 .ensures .0 .arcs other P st) t,
       λ f. absurd (true-holds (sym f ∙ t)),
     )
 
@@ -82,8 +82,8 @@ returns-3 c =
     let d = e .before .before .before .before .before .before .before in
     let p = d .before .before .before .before .pre in
     let g = c .before .before .before .if2 .left in (
-      λ P st q s. turn-ends P _ _ _ _ _ st _ _ _ q _ s (p .3) _ (d .before .before .in-use .ensures) _ _ _ (d .rule-turn .ensures .0 .checks refl P st q s) (e .before .before .before .before .if1 .left)
-          _ (e .before .before .in-use2 .ensures) _ _ _ (e .rule-turn2 .ensures .0 .arcs other P st) g _ (c .before .before .ahead-used .ensures) _ _ (c .ahead-turn .ensures P st),
+      λ P st q s. turn-ends P _ _ _ _ _ st _ _ _ q _ s (p .3) _ (d .before .before .uses .ensures) _ _ _ (d .rule-turn .ensures .0 .checks refl P st q s) (e .before .before .before .before .if1 .left)
+          _ (e .before .before .uses2 .ensures) _ _ _ (e .rule-turn2 .ensures .0 .arcs other P st) g _ (c .before .before .ahead-used .ensures) _ _ (c .ahead-turn .ensures P st),
       λ _. e .rule-turn2 .ensures .1 g,
     )
 
@@ -91,12 +91,12 @@ pub run-rules-spec : {M : Type 1} → statement M
 run-rules-spec =
     tie.close
     (tie.spec
-    in-use-requires
+    uses-requires
     rule-turn-requires
     same-length
     returns
     changed-by-requires
-    in-use-requires-2
+    uses-requires-2
     rule-turn-requires-2
     same-length-2
     returns-2

@@ -1,5 +1,5 @@
-use Prim.Native.Nat.{ℕ}
 use borrow.Author.Needs.{needs}
+use Prim.Native.Nat.{ℕ}
 use lib.Dec.{leb}
 use mathlib.Core.Path.{ap, _∙_}
 use Rattle.judging.specs.Tests.{roomTest}
