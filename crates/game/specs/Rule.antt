@@ -1,13 +1,8 @@
 -- Rule sets, and rules on a list of masks one after another.
 use mathlib.Core.Bool.{Bool, false, cond}
 use mathlib.Core.List.{List}
-use Prim.Native.Nat.{ℕ, zero, suc}
-use Rattle.mask.specs.Mask.{bit}
-
--- A rule set uses rule k, "numbers added into a rule set": rule k is the number 2 ^ (k - 1).
-unfoldable pub uses : ℕ → ℕ → Bool
-uses set zero = false
-uses set (suc k) = bit set k
+use Prim.Native.Nat.{ℕ}
+unfoldable pub use Rattle.rule_set.specs.RuleSet.{uses}
 
 -- What a rule replies: whether it found a loss, and the list that it leaves.
 pub record Ruled : Type 0 where

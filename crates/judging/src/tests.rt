@@ -1,22 +1,14 @@
 // What is tested of a rule set's number, a position and a room before a search. For the entries that search.
 ghost use mathlib.Core.Path.{_≡_};
 ghost use Prim.Native.Nat.{_≤_};
-ghost use Rattle.rule_set.specs.RuleSet.{isRuleSet};
 ghost use Rattle.judging.specs.Tests.{positionTest, roomTest, judgeTest};
 use position::Position;
 use position::fits;
 use refusal::Verdict;
 use refusal::first;
 use refusal::needed;
-use rule_set::RuleSet;
+use rule_set::is_rule_set;
 use search_run::room_needed;
-
-// A number of a rule set.
-fn is_rule_set(set: usize) -> bool
-    ensures { λ r. ⌜ r ≡ isRuleSet set ⌝ }
-{
-    set <= RuleSet::ALL.bits as usize
-}
 
 // 8 and 23, in this order.
 pub fn position_test(n: usize, domains: &[u16; 32], p: Position, set: usize) -> Verdict

@@ -1,5 +1,5 @@
 use mathlib.Core.Path.{_∙_}
-use Rattle.turn_rules.proofs.TurnLaws.{uses-is}
+use Rattle.rule_set.proofs.RuleSetLaws.{uses-is}
 use borrow.Author.Needs.{needs}
 use Rattle.turn_rules.proofs.in_use.Statement.{statement}
 use Rattle.turn_rules.proofs.in_use.Tie as tie

@@ -1,0 +1,2 @@
+-- What the constructor's reply says of a number, and the named sets.
+pub mod RuleSetLaws
