@@ -11,6 +11,7 @@ use borrow.Author.Tests.{leb-true, le-leb, eqb-true, eqb-false, ne-eqb, not-true
 use Rattle.refusal.specs.declared.Verdict.{Verdict}
 use Rattle.refusal.specs.declared.Verdict.the-variants.{Fine}
 use Rattle.refusal.proofs.Chain.{then-fine, need-fine, then-ok, need-ok, so, not-so, both-true}
+use Rattle.rule_set.specs.RuleSet.{isRuleSet}
 use Rattle.file_layout.specs.Layout.{byte, word, marked, QP, VE, VA, CT, EN, nOf, mOf, hasRules, variablesAt, domainAt, oneAt, twoAt, rowAt}
 use Rattle.file_layout.proofs.LayoutLaws.{opened-out, opened-in}
 use Rattle.file_records.specs.Records.{qpTest, rsTest, variableTest, variablesTest, constraintTest, lastPair, constraintsTest, enTest}
@@ -34,15 +35,15 @@ unfolding qpTest
 qp-in f h = then-ok _ _ (opened-in f 0 _ 3 (h .within) (h .mark)) (need-ok _ _ _ (counts-in _ _ (h .counts)))
 
 -- RS.
-pub rs-out : (f : List ℕ) → rsTest f ≡ Fine → hasRules f ≡ true → (8 ≤ length f) × (byte f 7 ≤ 127)
+pub rs-out : (f : List ℕ) → rsTest f ≡ Fine → hasRules f ≡ true → (8 ≤ length f) × (isRuleSet (byte f 7) ≡ true)
 unfolding rsTest
 rs-out f q h =
     let a = then-fine _ _ (sym (so _ _ h) ∙ q) in
-    (opened-out _ _ _ _ (a .0) .0, leb-true _ _ (need-fine _ _ _ (a .1)))
+    (opened-out _ _ _ _ (a .0) .0, need-fine _ _ _ (a .1))
 
-pub rs-in : (f : List ℕ) (d : Bool) → hasRules f ≡ d → (d ≡ true → (8 ≤ length f) × (byte f 7 ≤ 127)) → rsTest f ≡ Fine
+pub rs-in : (f : List ℕ) (d : Bool) → hasRules f ≡ d → (d ≡ true → (8 ≤ length f) × (isRuleSet (byte f 7) ≡ true)) → rsTest f ≡ Fine
 unfolding rsTest
-rs-in f true e h = so _ _ e ∙ then-ok _ _ (opened-in f 5 true 1 (h refl .0) refl) (need-ok _ _ _ (le-leb _ _ (h refl .1)))
+rs-in f true e h = so _ _ e ∙ then-ok _ _ (opened-in f 5 true 1 (h refl .0) refl) (need-ok _ _ _ (h refl .1))
 rs-in f false e h = not-so _ _ e
 
 -- VE and VA.

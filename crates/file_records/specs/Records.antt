@@ -8,6 +8,7 @@ use lib.Dec.{leb, eqb}
 use Rattle.refusal.specs.declared.Verdict.{Verdict}
 use Rattle.refusal.specs.declared.Verdict.the-variants.{Fine}
 use Rattle.refusal.specs.Chain.{_then_, need, only}
+use Rattle.rule_set.specs.RuleSet.{isRuleSet}
 use Rattle.file_layout.specs.Layout.{byte, word, marked, opened, QP, VE, VA, CT, EN, nOf, mOf, hasRules, variablesAt, domainAt, oneAt, twoAt, rowAt, pairAt}
 use Rattle.file_layout.specs.Numbers.{countsFit, constraintFits}
 
@@ -17,7 +18,7 @@ qpTest f = opened f 0 (marked f 0 QP) 3 then need (countsFit (nOf f) (mOf f)) 3 
 
 -- `RS`, where it stands.
 unfoldable pub rsTest : List ℕ → Verdict
-rsTest f = only (hasRules f) (opened f 5 true 1 then need (leb (byte f 7) 127) 8 5)
+rsTest f = only (hasRules f) (opened f 5 true 1 then need (isRuleSet (byte f 7)) 8 5)
 
 -- `VE` or `VA` at p, and the first k of them from b.
 unfoldable pub variableTest : List ℕ → ℕ → Verdict

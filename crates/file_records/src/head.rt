@@ -8,6 +8,7 @@ use file_layout::opened_at;
 use file_layout::word_at;
 use refusal::Verdict;
 use refusal::needed;
+use rule_set::is_rule_set;
 
 pub fn qp_test(f: &[u8]) -> Verdict
     ensures { λ r. ⌜ r ≡ qpTest (now (f .entry)) ⌝ }
@@ -26,7 +27,7 @@ pub fn rs_test(f: &[u8]) -> Verdict
         let o = opened_at(f, 5, true, 1);
         match o {
             Verdict::Refused(number, place) => Verdict::Refused(number, place),
-            Verdict::Fine => needed(byte_at(f, 7) <= 127, 8, 5),
+            Verdict::Fine => needed(is_rule_set(byte_at(f, 7)), 8, 5),
         }
     } else {
         Verdict::Fine

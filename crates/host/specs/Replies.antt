@@ -4,7 +4,7 @@ use Prim.Native.Nat.{ℕ}
 use mathlib.Core.List.{List}
 use lib.ListN.{length, drop, getD}
 use Rattle.refusal.specs.Told.{Told, replied, refused, refusedAt}
-use Rattle.rule_set.specs.RuleSet.{usualSet}
+use Rattle.problem_file.specs.Used.{setUsed}
 use Rattle.search_run.specs.Run.{roomNeeded}
 use Rattle.host.specs.declared.replies.ReadFile.{ReadFile}
 use Rattle.host.specs.declared.replies.Judgement.{Judgement}
@@ -41,9 +41,9 @@ givenOf (replied l) = length (drop 3 l)
 givenOf (refused e) = 0
 givenOf (refusedAt e p) = 0
 
--- "The judging program uses the file's `RS`, else USUAL."
+-- The rule set to judge by.
 unfoldable pub rulesOf : Told → ℕ
-rulesOf (replied l) = getD l 3 usualSet
+rulesOf (replied l) = setUsed (drop 3 l)
 rulesOf (refused e) = 0
 rulesOf (refusedAt e p) = 0
 

@@ -1,8 +1,7 @@
 // What the entries reply to a C host, and how each answer of the crates below becomes such a reply. `kind` is 0 for a
 // finished reply, 1 for a refusal by number, 2 for a file's refusal with number and place; a field that says nothing is 0.
 ghost use mathlib.Core.Path.{_≡_};
-ghost use lib.ListN.{length, getD};
-ghost use Rattle.rule_set.specs.RuleSet.{usualSet};
+ghost use lib.ListN.{length};
 ghost use Rattle.problem_file.specs.Reading.{ruleNumbers, told as toldHeader};
 ghost use Rattle.judging.specs.Judging.{told as toldJudged};
 ghost use Rattle.marking.specs.Marking.{told as toldMarked};
@@ -11,7 +10,7 @@ use file_layout::Rules;
 use judging::Judged;
 use marking::Marked;
 use problem_file::Header;
-use rule_set::RuleSet;
+use problem_file::rules_used;
 
 #[repr(C)]
 pub struct ReadFile {
@@ -53,16 +52,6 @@ fn named(rules: Rules) -> u64
     }
 }
 
-// The rule set to judge by: the file's, else USUAL.
-fn to_use(rules: Rules) -> u8
-    ensures { λ r. ⌜ r ≡ getD (ruleNumbers rules) 0 usualSet ⌝ }
-{
-    match rules {
-        Rules::Absent => RuleSet::USUAL.bits,
-        Rules::Given(k) => k,
-    }
-}
-
 pub fn reading_shown(h: Header, domains: [u16; 32]) -> ReadFile
     ensures { λ r. ⌜ r ≡ readFileOf (toldHeader h) domains ⌝ }
 {
@@ -86,7 +75,7 @@ pub fn reading_shown(h: Header, domains: [u16; 32]) -> ReadFile
             m: m as u64,
             universal: universal as u64,
             given: named(rules),
-            rules: to_use(rules) as u64,
+            rules: rules_used(rules) as u64,
             domains: domains,
         },
     }

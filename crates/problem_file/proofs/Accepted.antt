@@ -16,6 +16,7 @@ use Rattle.refusal.specs.declared.Verdict.the-variants.{Fine}
 use Rattle.refusal.specs.declared.Verdict.the-variants.{Refused as Not}
 use Rattle.refusal.specs.Told.{Told, replied, refusedAt}
 use Rattle.refusal.proofs.Chain.{then-fine, then-ok}
+use Rattle.rule_set.specs.RuleSet.{isRuleSet}
 use Rattle.file_layout.specs.declared.Rules.{Rules}
 use Rattle.file_layout.specs.declared.Rules.the-variants.{Absent, Given}
 use Rattle.problem_file.specs.declared.Header.{Header}
@@ -29,7 +30,7 @@ use Rattle.file_records.proofs.RecordLaws.{Head, Variable, Constraint, qp-out, 
 -- What holds of an accepted file.
 pub record Accepted (f : List ℕ) : Type 0 where
   pub head : Head f
-  pub rules : hasRules f ≡ true → (8 ≤ length f) × (byte f 7 ≤ 127)
+  pub rules : hasRules f ≡ true → (8 ≤ length f) × (isRuleSet (byte f 7) ≡ true)
   pub variable : (i : ℕ) → i < nOf f → Variable f (variablesAt f + 4 * i)
   pub constraint : (t : ℕ) → t < mOf f → Constraint f (variablesAt f) (nOf f) (lastPair f (constraintsAt f) t) (constraintsAt f + 36 * t)
   pub size : length f ≡ afterConstraints f + 2

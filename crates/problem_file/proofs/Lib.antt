@@ -2,3 +2,5 @@
 pub mod Accepted
 -- The longest file, and what stands behind it.
 pub mod Longest
+-- The rule set used.
+pub mod UsedLaws

@@ -3,6 +3,7 @@
 ghost use mathlib.Core.Path.{_≡_};
 ghost use Rattle.problem_file.specs.Reading.{told, headerOf, domainsOf};
 
+mod used;
 mod values;
 mod whole;
 
@@ -12,6 +13,7 @@ use file_layout::rules_at;
 use file_layout::variables_at;
 use file_layout::word_at;
 use refusal::Verdict;
+pub use used::rules_used;
 use values::domains;
 use values::universal_bits;
 pub use whole::check_file;

@@ -7,6 +7,7 @@ use lib.Dec.{leb, ltb, eqb}
 use Rattle.refusal.specs.declared.Verdict.{Verdict}
 use Rattle.refusal.specs.declared.Verdict.the-variants.{Fine}
 use Rattle.refusal.specs.Chain.{_then_, need}
+use Rattle.rule_set.specs.RuleSet.{isRuleSet}
 use Rattle.file_layout.specs.declared.Rules.{Rules}
 use Rattle.file_layout.specs.declared.Rules.the-variants.{Absent, Given}
 use Rattle.file_layout.specs.Numbers.{countsFit, pairOf, constraintFits}
@@ -18,7 +19,7 @@ listsFit n m domains constraints = eqb domains n && eqb constraints (18 * m)
 
 unfoldable pub rulesFit : Rules → Bool
 rulesFit Absent = true
-rulesFit (Given k) = leb k 127
+rulesFit (Given k) = isRuleSet k
 
 -- 4 for each domain that is zero: the first k of them.
 unfoldable pub domainsTest : (ℕ → ℕ) → ℕ → Verdict

@@ -15,6 +15,7 @@ use refusal::Verdict;
 use refusal::both;
 use refusal::first;
 use refusal::needed;
+use rule_set::is_rule_set;
 
 // Lists of these lengths hold n domains and 18 numbers a constraint.
 fn lists_fit(n: usize, m: usize, domains: usize, constraints: usize) -> bool
@@ -29,7 +30,7 @@ fn rules_fit(rules: Rules) -> bool
 {
     match rules {
         Rules::Absent => true,
-        Rules::Given(k) => k <= 127,
+        Rules::Given(k) => is_rule_set(k as usize),
     }
 }
 

@@ -17,10 +17,12 @@ use Rattle.refusal.specs.Told.{Told, replied, refused, refusedAt}
 use Rattle.refusal.proofs.Chain.{then-ok, need-ok}
 use Rattle.rule_set.specs.RuleSet.{isRuleSet, fullSet}
 use Rattle.file_layout.specs.declared.Rules.{Rules}
-use Rattle.file_layout.specs.declared.Rules.the-variants.{Absent, Given}
-use Rattle.file_layout.specs.Layout.{byte, nOf, hasRules, rulesOf, variablesAt}
+use Rattle.file_layout.specs.Layout.{nOf, rulesOf, variablesAt}
 use Rattle.file_records.specs.Records.{verdictOf}
+use Rattle.rule_set.proofs.RuleSetLaws.{set-most}
+use Rattle.problem_file.specs.Used.{rulesUsed}
 use Rattle.problem_file.proofs.Accepted.{Shows, accepted, read-universal}
+use Rattle.problem_file.proofs.UsedLaws.{used-set}
 use Rattle.game.specs.Problem.{Problem}
 use Rattle.game.specs.Winning.{verdict, winningValues}
 use Rattle.theory.proofs.TurnLists.{legal-in}
@@ -41,7 +43,7 @@ use Rattle.marking.specs.Marking.{markTest, markReply, markTold}
 use Rattle.marking.specs.Marking.{told as toldMarks}
 use Rattle.report.specs.Text.{replyText, refusedText}
 use Rattle.reporting.specs.declared.First.{First}
-use Rattle.reporting.specs.Reporting.{setUsed, problemText, reportOf, Holds, wonBy, marksBy, ReportsAccepted}
+use Rattle.reporting.specs.Reporting.{problemText, reportOf, Holds, wonBy, marksBy, ReportsAccepted}
 
 -- ---- before any play the tests are fine
 
@@ -141,26 +143,17 @@ holds-as {l} {l'} {r} text other e a b = subst (λ (t : List ℕ). Holds t l r l
 pub reply-same : (n m set : ℕ) (universal : Bool) {won won' : Bool} {d d' w w' : ℕ} → won ≡ won' → d ≡ d' → w ≡ w' → replyText n m set won 0 universal d w ≡ replyText n m set won' 0 universal d' w'
 reply-same n m set universal e g h = rw (e, g, h)
 
--- The set used is a rule set.
-set-small : (f : List ℕ) → verdictOf f ≡ Fine → setUsed (rulesOf f) ≤ fullSet
-unfolding setUsed rulesOf
-set-small f fine = go (hasRules f) refl
-  where
-    go : (b : Bool) → hasRules f ≡ b → setUsed (cond b (Given (byte f 7)) Absent) ≤ fullSet
-    go true e = accepted f fine .rules e .1
-    go false e = omega arith
-
 -- The text of an accepted file by the reading's numbers.
-accepted-text : (f : List ℕ) (bytes : Bytes f) (n m : ℕ) (rules : Rules) (u : ℕ) (s : Shows f n m rules u) (set : ℕ) (universal : Bool) → set ≡ setUsed rules → universal ≡ bit u 0
+accepted-text : (f : List ℕ) (bytes : Bytes f) (n m : ℕ) (rules : Rules) (u : ℕ) (s : Shows f n m rules u) (set : ℕ) (universal : Bool) → set ≡ rulesUsed rules → universal ≡ bit u 0
     → replyText n m set (verdict (problemOf f bytes (s .fine)) []) 0 universal (getD (problemOf f bytes (s .fine) .domain) 0 0) (winningValues (problemOf f bytes (s .fine)) []) ≡ reportOf f bytes
 unfolding reportOf problemText problemOf universalOf
 accepted-text f bytes n m rules u s set universal e g =
     rw (e, s .set, s .variables, s .constraints, g, s .bits, read-universal f (variablesAt f) (nOf f) 0 (accepted f (s .fine) .head .counts .some)) (sym (read-fine f bytes _ _ (s .fine)))
 
-pub accepted-holds : (f : List ℕ) (bytes : Bytes f) (n m : ℕ) (rules : Rules) (u : ℕ) → Shows f n m rules u → (set : ℕ) (universal : Bool) → set ≡ setUsed rules → universal ≡ bit u 0
+pub accepted-holds : (f : List ℕ) (bytes : Bytes f) (n m : ℕ) (rules : Rules) (u : ℕ) → Shows f n m rules u → (set : ℕ) (universal : Bool) → set ≡ rulesUsed rules → universal ≡ bit u 0
     → (l : List ℕ) (r : ℕ) (l' : List ℕ) → ReportsAccepted f n m set universal l r l' → Holds (reportOf f bytes) l r l'
 accepted-holds f bytes n m rules u s set universal e g l r l' h =
-    let k : set ≤ fullSet = rw (e, s .set) (set-small f (s .fine)) in
+    let k : set ≤ fullSet = set-most set (rw (e, s .set) (used-set f (s .fine))) in
     subst (λ (t : List ℕ). Holds t l r l') (accepted-text f bytes n m rules u s set universal e g) (h bytes (s .fine) k)
 
 -- The text of a refused one.

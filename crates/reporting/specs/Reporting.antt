@@ -5,11 +5,10 @@ use mathlib.Core.Bool.{Bool, true, false}
 use mathlib.Core.List.{List, [], _++_}
 use lib.ListN.{getD, length, drop}
 use Rattle.refusal.specs.declared.Verdict.the-variants.{Fine}
-use Rattle.rule_set.specs.RuleSet.{usualSet, fullSet}
-use Rattle.file_layout.specs.declared.Rules.{Rules}
-use Rattle.file_layout.specs.declared.Rules.the-variants.{Absent, Given}
+use Rattle.rule_set.specs.RuleSet.{fullSet}
 use Rattle.file_layout.specs.Layout.{mOf, rulesOf}
 use Rattle.file_records.specs.Records.{verdictOf}
+use Rattle.problem_file.specs.Used.{rulesUsed}
 use Rattle.game.specs.Problem.{Problem}
 use Rattle.game.specs.Winning.{verdict, winningValues}
 use Rattle.tables.specs.FileProblem.{problemOf}
@@ -22,18 +21,13 @@ use Rattle.marking.specs.declared.Marked.the-variants.{Refused as NoValues, Ref
 use Rattle.report.specs.Text.{replyText, refusedText}
 use Rattle.reporting.specs.declared.First.{First}
 
--- "The judging program uses the file's `RS`, else USUAL."
-unfoldable pub setUsed : Rules → ℕ
-setUsed Absent = usualSet
-setUsed (Given k) = k
-
 -- The text for a problem with m constraints, before any play.
 unfoldable pub problemText : Problem → ℕ → ℕ → List ℕ
 problemText P m set = replyText (P .n) m set (verdict P []) 0 (P .universal 0) (getD (P .domain) 0 0) (winningValues P [])
 
 -- The text for the bytes f.
 unfoldable pub reportOf : (f : List ℕ) → Bytes f → List ℕ
-reportOf f bytes = readFirst f bytes refusedText (λ P. problemText P (mOf f) (setUsed (rulesOf f)))
+reportOf f bytes = readFirst f bytes refusedText (λ P. problemText P (mOf f) (rulesUsed (rulesOf f)))
 
 -- The buffer l becomes l': the text, which ends at r, and behind it what was there.
 pub record Holds (text l : List ℕ) (r : ℕ) (l' : List ℕ) : Type 0 where

@@ -5,34 +5,23 @@ ghost use mathlib.Core.List.{_++_};
 ghost use Prim.Native.Nat.{_≤_};
 ghost use lib.ListN.{length, drop};
 ghost use Rattle.rules.specs.Alone.{Bytes};
-ghost use Rattle.reporting.specs.Reporting.{setUsed, reportOf, ReportsAccepted};
+ghost use Rattle.reporting.specs.Reporting.{reportOf, ReportsAccepted};
 
 mod opening;
 
-use file_layout::Rules;
 use mask::contains_32;
 use opening::first_marks;
 use opening::is_won;
 use problem_file::Header;
 use problem_file::read;
+use problem_file::rules_used;
 use report::render_refusal;
 use report::render_reply;
-use rule_set::RuleSet;
 
 // The winning values of the first variable, and its domain.
 pub struct First {
     pub winning: u16,
     pub domain: u16,
-}
-
-// The number of the rule set that the judging program uses.
-fn set_used(rules: Rules) -> usize
-    ensures { λ r. ⌜ r ≡ setUsed rules ⌝ }
-{
-    match rules {
-        Rules::Absent => RuleSet::USUAL.bits as usize,
-        Rules::Given(k) => k as usize,
-    }
 }
 
 // The text for an accepted file.
@@ -67,7 +56,7 @@ pub fn report_file(f: &[u8], out: &mut [u8; 1024]) -> usize
                 f,
                 n as usize,
                 m as usize,
-                set_used(rules),
+                rules_used(rules) as usize,
                 contains_32(u, 0),
                 out,
             )

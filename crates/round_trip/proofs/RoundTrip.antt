@@ -8,7 +8,6 @@ use lib.ListN.{length, getD, take, drop, replicate, length-take, length-append, 
 use lib.Seq.{ext-getD, getD-take, getD-append-add, getD-set-other, take-at}
 use native.Mathlib.Nat.{le-refl}
 use native.Mathlib.Omega.{arith}
-use borrow.Author.Tests.{le-leb}
 use Rattle.mask.proofs.Logic.{by-eq, by-lt}
 use Rattle.mask.proofs.Bits.{bit-ext}
 use Rattle.mask.proofs.Masks.{maskOf-lt, bit-maskOf}
@@ -48,7 +47,7 @@ unfolding rulesFit rulesOf
 rules-shown f a = go (hasRules f) refl
   where
     go : (d : Bool) → hasRules f ≡ d → rulesFit (cond d (Given (byte f 7)) Absent) ≡ true
-    go true e = le-leb _ _ (a .rules e .1)
+    go true e = a .rules e .1
     go false e = refl
 
 module _ (f : List ℕ) (fine : verdictOf f ≡ Fine) where

@@ -6,8 +6,8 @@ use mathlib.Core.List.{List, [], _∷_, _++_}
 use lib.ListN.{length, getD}
 use native.Mathlib.Nat.{zero-add}
 use native.Mathlib.Omega.{arith}
-use borrow.Author.Tests.{leb-true}
 use Rattle.refusal.specs.declared.Verdict.the-variants.{Fine}
+use Rattle.rule_set.specs.RuleSet.{isRuleSet}
 use Rattle.file_layout.specs.declared.Rules.{Rules}
 use Rattle.file_layout.specs.declared.Rules.the-variants.{Absent, Given}
 use Rattle.file_layout.specs.Layout.{byte, word, marked, QP, RS, EN, nOf, mOf, hasRules, rulesOf, variablesAt, domainAt, universalAt, oneAt, twoAt, rowAt, pairAt, constraintsAt, afterConstraints}
@@ -50,10 +50,10 @@ module _ (f : List ℕ) where
   start-is Absent a h = rw (not-first f 5 RS (λ e. omega (arith, h refl)))
   start-is (Given k) a h = rw (mark-is f 5 RS (left f 5 (markBytes RS) (k ∷ []) a))
 
-  rules-fit : (r : Rules) → Holds f 5 (rsBytes r) → (r ≡ Absent → getD f 5 0 ≡ 86) → rulesFit r ≡ true → hasRules f ≡ true → (8 ≤ length f) × (byte f 7 ≤ 127)
+  rules-fit : (r : Rules) → Holds f 5 (rsBytes r) → (r ≡ Absent → getD f 5 0 ≡ 86) → rulesFit r ≡ true → hasRules f ≡ true → (8 ≤ length f) × (isRuleSet (byte f 7) ≡ true)
   unfolding rsBytes rulesFit markBytes
   rules-fit Absent a h low e = absurd (false≢true (sym (not-first f 5 RS (λ g. omega (arith, h refl))) ∙ e))
-  rules-fit (Given k) a h low e = let b : getD f 7 0 ≡ k = a .same 2 (omega arith) in (a .long, omega (arith, leb-true k 127 low))
+  rules-fit (Given k) a h low e = (a .long, ap isRuleSet (a .same 2 (omega arith)) ∙ low)
 
 -- Both marks of a variable begin with V.
 first-of : (d : Bool) → getD (variableMark d) 0 0 ≡ 86

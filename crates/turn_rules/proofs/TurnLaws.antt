@@ -2,12 +2,11 @@
 use mathlib.Core.Path.{_≡_, sym, ap, ap₂, subst, _∙_}
 use mathlib.Core.Bool.{Bool, true, false, not, _&&_}
 use mathlib.Core.List.{List}
-use Prim.Native.Nat.{ℕ, suc, _-_, _≤_, _<_}
+use Prim.Native.Nat.{ℕ, _-_, _≤_, _<_}
 use native.Mathlib.Omega.{arith}
 use lib.Dec.{ltb}
 use lib.ListN.{length}
 use borrow.Author.Tests.{ltb-true}
-use Rattle.mask.specs.Mask.{bit}
 use Rattle.mask.proofs.Logic.{holds, true-holds, test, and-out}
 use Rattle.game.specs.Problem.{Problem}
 use Rattle.game.specs.Rule.{uses}
@@ -18,10 +17,6 @@ use Rattle.arrays.proofs.WordLaws.{length-holding}
 use Rattle.turn_rules.specs.RuledTurn.{Replied, Plays}
 use Rattle.turn_rules.proofs.ChainLaws.{chain-lost, chain-on, chosen, left-out}
 use Rattle.turn_rules.proofs.AfterArc.{ahead-omitted}
-
-pub uses-is : (S k : ℕ) → 1 ≤ k → bit S (k - 1) ≡ uses S k
-unfolding uses
-uses-is S k h = let e : k ≡ suc (k - 1) = omega arith in sym (ap (uses S) e)
 
 -- Look ahead is left out where rule 1 is used, and used below n only.
 pub ahead-off : (on u b : Bool) → on ≡ u → on ≡ true → false ≡ (not u && b)

@@ -36,8 +36,11 @@ cast-report-accepted c = search needs
 cast-report-accepted-2 : tie.Need-cast-report-accepted-2
 cast-report-accepted-2 c = search needs
 
-set-used-requires : tie.Need-set-used-requires
-set-used-requires c κs = search needs
+rules-used-requires : tie.Need-rules-used-requires
+rules-used-requires c κs = search needs
+
+cast-report-accepted-3 : tie.Need-cast-report-accepted-3
+cast-report-accepted-3 c = search needs
 
 contains-32-requires : tie.Need-contains-32-requires
 contains-32-requires c κs = search needs
@@ -60,7 +63,7 @@ returns-2 : tie.Need-returns-2
 returns-2 c =
     let s = header-shows _ _ _ _ _ (ap toldHeader (sym (c .before .before .before .before .before .h2 .given .1)) ∙ c .before .before .before .before .before .before .before .read .ensures .0) in
     let e = c .report-accepted .ensures in
-    let u = c .before .before .before .set-used .ensures in
+    let u = c .before .before .before .rules-used .ensures in
     let w = c .before .before .contains-32 .ensures in (
       e .0,
       (
@@ -80,7 +83,8 @@ report-file-spec =
     enum-known-h-2
     cast-report-accepted
     cast-report-accepted-2
-    set-used-requires
+    rules-used-requires
+    cast-report-accepted-3
     contains-32-requires
     report-accepted-requires
     returns

@@ -1,6 +1,9 @@
 use borrow.Author.Needs.{needs}
-use mathlib.Core.Path.{sym, _∙_}
+use mathlib.Core.Bool.{Bool}
+use mathlib.Core.Path.{sym, ap, _∙_}
+use Rattle.refusal.specs.Chain.{need}
 use Rattle.refusal.proofs.Chain.{stop, go, so, not-so}
+use Rattle.rule_set.specs.RuleSet.{isRuleSet}
 use Rattle.file_records.specs.Records.{rsTest}
 use Rattle.file_records.proofs.head.rs_test.Statement.{statement}
 use Rattle.file_records.proofs.head.rs_test.Tie as tie
@@ -20,6 +23,9 @@ enum-told c = search needs
 byte-at-requires : tie.Need-byte-at-requires
 byte-at-requires c κs = search needs
 
+is-rule-set-requires : tie.Need-is-rule-set-requires
+is-rule-set-requires c κs = search needs
+
 needed-requires : tie.Need-needed-requires
 needed-requires c κs = search needs
 
@@ -29,7 +35,7 @@ returns c = sym (so _ _ (cc) ∙ stop _ _ _ _ (cc))
 
 returns-2 : tie.Need-returns-2
 unfolding rsTest
-returns-2 c = sym (so _ _ (cc) ∙ go _ _ (cc) ∙ cc)
+returns-2 c = sym (so _ _ (cc) ∙ go _ _ (cc) ∙ ap (λ (b : Bool). need b 8 5) (sym (c .before .is-rule-set .ensures ∙ ap isRuleSet (c .before .before .byte-at .ensures .0))) ∙ sym (c .needed .ensures))
 
 returns-3 : tie.Need-returns-3
 unfolding rsTest
@@ -44,6 +50,7 @@ rs-test-spec =
     enum-known-o
     enum-told
     byte-at-requires
+    is-rule-set-requires
     needed-requires
     returns
     returns-2

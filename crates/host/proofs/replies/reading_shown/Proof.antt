@@ -3,6 +3,7 @@ use Prim.Native.Nat.{ℕ}
 use mathlib.Core.Path.{sym, ap, _∙_}
 use Rattle.problem_file.specs.declared.Header.{Header}
 use Rattle.problem_file.specs.Reading.{told, headerNumbers}
+use Rattle.problem_file.specs.Used.{rulesUsed}
 use Rattle.host.specs.declared.replies.ReadFile.{ReadFile}
 use Rattle.host.specs.Replies.{kindOf, numberOf, placeOf, valueOf, givenOf, rulesOf, readFileOf}
 use borrow.Author.Needs.{needs}
@@ -33,8 +34,8 @@ cast-t14 c = search needs
 named-requires : tie.Need-named-requires
 named-requires c κs = search needs
 
-to-use-requires : tie.Need-to-use-requires
-to-use-requires c κs = search needs
+rules-used-requires : tie.Need-rules-used-requires
+rules-used-requires c κs = search needs
 
 cast-t17 : tie.Need-cast-t17
 cast-t17 c = search needs
@@ -44,8 +45,8 @@ unfolding told headerNumbers readFileOf kindOf numberOf placeOf valueOf givenOf 
 returns c = sym (ap (shown _) (c .before .h .given .1))
 
 returns-2 : tie.Need-returns-2
-unfolding told headerNumbers readFileOf kindOf numberOf placeOf valueOf givenOf rulesOf
-returns-2 c = rw (c .before .named .ensures, c .to-use .ensures) (sym (ap (shown _) (c .before .before .before .h2 .given .1)))
+unfolding told headerNumbers readFileOf kindOf numberOf placeOf valueOf givenOf rulesOf rulesUsed
+returns-2 c = rw (c .before .named .ensures, c .rules-used .ensures) (sym (ap (shown _) (c .before .before .before .h2 .given .1)))
 
 pub reading-shown-spec : {M : Type 1} → statement M
 reading-shown-spec =
@@ -58,7 +59,7 @@ reading-shown-spec =
     cast-t13
     cast-t14
     named-requires
-    to-use-requires
+    rules-used-requires
     cast-t17
     returns
     returns-2)
