@@ -22,7 +22,7 @@ use Rattle.problem_file.specs.declared.Header.{Header}
 use Rattle.problem_file.specs.declared.Header.the-variants.{Accepted as Shown, Refused}
 use Rattle.file_layout.specs.Layout.{byte, marked, QP, EN, nOf, mOf, hasRules, rulesOf, variablesAt, domainAt, universalAt, constraintsAt, afterConstraints}
 use Rattle.file_records.specs.Records.{lastPair, restTest, verdictOf}
-use Rattle.problem_file.specs.Reading.{ruleNumbers, headerNumbers, told, universalBits, domainsTo, headerFor, domainsFor, headerOf, domainsOf}
+use Rattle.problem_file.specs.Reading.{ruleNumbers, headerNumbers, told, universalOf, universalBits, universalBitsOf, domainsTo, headerFor, domainsFor, headerOf, domainsOf}
 use Rattle.file_layout.proofs.NumberLaws.{Counts}
 use Rattle.file_records.proofs.RecordLaws.{Head, Variable, Constraint, qp-out, qp-in, rs-out, rs-in, variables-out, variables-in, constraints-out, constraints-in, en-out, en-in}
 
@@ -60,6 +60,10 @@ accept f a =
     (then-ok _ _ (variables-in f _ _ (a .variable))
     (then-ok _ _ (constraints-in f _ _ _ _ (a .constraint)) (en-in f _ (a .size) (a .ends)))))
 
+-- "n, choices, 1 to 32".
+pub variables-most : (f : List ℕ) → verdictOf f ≡ Fine → nOf f ≤ 32
+variables-most f v = accepted f v .head .counts .most
+
 -- "The length is 7 + 4n + 36m, plus 3 with `RS`."
 pub file-length : (f : List ℕ) → Accepted f → length f ≡ variablesAt f + 4 * nOf f + 36 * mOf f + 2
 unfolding constraintsAt afterConstraints
@@ -88,7 +92,7 @@ pub record Shows (f : List ℕ) (n m : ℕ) (rules : Rules) (universal : ℕ) : 
   pub variables : n ≡ nOf f
   pub constraints : m ≡ mOf f
   pub set : rules ≡ rulesOf f
-  pub bits : universal ≡ universalBits f (variablesAt f) (nOf f)
+  pub bits : universal ≡ universalBitsOf f
 
 pub header-shows : (f : List ℕ) (n m : ℕ) (rules : Rules) (universal : ℕ) → told (Shown n m rules universal) ≡ headerOf f → Shows f n m rules universal
 unfolding told headerFor headerNumbers
@@ -140,3 +144,7 @@ domain-some f v i h e = accepted f v .variable i h .domain (sym (read-domain f v
 pub read-universal : (f : List ℕ) (b n i : ℕ) → i < n → bit (universalBits f b n) i ≡ universalAt f b i
 unfolding universalBits
 read-universal f b n i h = bit-maskOf n (universalAt f b) i h
+
+pub universal-shown : (f : List ℕ) (i : ℕ) → i < nOf f → bit (universalBitsOf f) i ≡ universalOf f i
+unfolding universalOf
+universal-shown f i h = read-universal f (variablesAt f) (nOf f) i h
