@@ -20,9 +20,9 @@ use Rattle.file_layout.specs.declared.Rules.{Rules}
 use Rattle.file_layout.specs.declared.Rules.the-variants.{Absent, Given}
 use Rattle.problem_file.specs.declared.Header.{Header}
 use Rattle.problem_file.specs.declared.Header.the-variants.{Accepted as Shown, Refused}
-use Rattle.file_layout.specs.Layout.{byte, marked, QP, EN, nOf, mOf, hasRules, rulesOf, variablesAt, domainAt, universalAt, constraintsAt, afterConstraints}
+use Rattle.file_layout.specs.Layout.{byte, word, marked, QP, EN, nOf, mOf, hasRules, rulesOf, variablesAt, domainAt, universalAt, constraintsAt, afterConstraints}
 use Rattle.file_records.specs.Records.{lastPair, restTest, verdictOf}
-use Rattle.problem_file.specs.Reading.{ruleNumbers, headerNumbers, told, universalOf, universalBits, universalBitsOf, domainsTo, headerFor, domainsFor, headerOf, domainsOf}
+use Rattle.problem_file.specs.Reading.{ruleNumbers, headerNumbers, told, domainOf, universalOf, universalBits, universalBitsOf, domainsTo, headerFor, domainsFor, headerOf, domainsOf}
 use Rattle.file_layout.proofs.NumberLaws.{Counts}
 use Rattle.file_records.proofs.RecordLaws.{Head, Variable, Constraint, qp-out, qp-in, rs-out, rs-in, variables-out, variables-in, constraints-out, constraints-in, en-out, en-in}
 
@@ -122,6 +122,10 @@ unfolding domainsTo
 length-domains f b zero = refl
 length-domains f b (suc k) = simp length-set (length-domains f b k)
 
+pub domains-length : (f : List ℕ) → verdictOf f ≡ Fine → length (domainsOf f) ≡ 32
+unfolding domainsFor
+domains-length f v = ap length (domains-is f Fine v) ∙ length-domains f (variablesAt f) (nOf f)
+
 pub domain-in : (f : List ℕ) (b k i : ℕ) → k ≤ 32 → i < k → getD (domainsTo f b k) i 0 ≡ domainAt f b i
 unfolding domainsTo
 domain-in f b zero i l h = absurd (omega arith)
@@ -140,6 +144,21 @@ read-domain f v i h =
 pub domain-some : (f : List ℕ) → verdictOf f ≡ Fine → (i : ℕ) → i < nOf f → getD (domainsOf f) i 0 ≡ 0 → ⊥
 unfolding domainAt
 domain-some f v i h e = accepted f v .variable i h .domain (sym (read-domain f v i h) ∙ e)
+
+-- Every list's domains are below 2^16, and none of an accepted one is zero; of bytes they are those of the reply.
+pub domain-small : (f : List ℕ) (i : ℕ) → domainOf f i < 65536
+unfolding domainOf
+domain-small f i = omega arith
+
+pub domain-full : (f : List ℕ) → verdictOf f ≡ Fine → (i : ℕ) → i < nOf f → ¬ (domainOf f i ≡ 0)
+unfolding domainOf domainAt
+domain-full f v i h e = accepted f v .variable i h .domain (omega arith)
+
+pub domain-read : (f : List ℕ) → ((k : ℕ) → getD f k 0 < 256) → verdictOf f ≡ Fine → (i : ℕ) → i < nOf f → getD (domainsOf f) i 0 ≡ domainOf f i
+unfolding domainOf domainAt word
+domain-read f bytes v i h =
+    let p = variablesAt f + 4 * i + 2 in
+    omega (arith, read-domain f v i h, bytes p, bytes (p + 1))
 
 pub read-universal : (f : List ℕ) (b n i : ℕ) → i < n → bit (universalBits f b n) i ≡ universalAt f b i
 unfolding universalBits

@@ -1,6 +1,6 @@
 -- What reading tells: of an accepted file n, m, the rule set or none, the universal bits and the domains; else the number and the
 -- place, "Nothing else is returned". The crates above name a file's numbers and its verdict by what this module passes on.
-use Prim.Native.Nat.{ℕ, zero, suc}
+use Prim.Native.Nat.{ℕ, zero, suc, min}
 use mathlib.Core.Bool.{Bool}
 use mathlib.Core.List.{List, [], _∷_, _++_}
 use lib.ListN.{set, replicate}
@@ -30,6 +30,11 @@ headerNumbers n m rules universal = n ∷ m ∷ universal ∷ ruleNumbers rules
 unfoldable pub told : Header → Told
 told (Accepted n m rules universal) = replied (headerNumbers n m rules universal)
 told (Refused e p) = refusedAt e p
+
+-- "two bytes, a mask of options": a number of 16 bits. The bound cuts nothing in a slice, whose elements are bytes (`domain-read` in
+-- `proofs/Accepted.antt`), and it keeps a domain that is not zero.
+unfoldable pub domainOf : List ℕ → ℕ → ℕ
+domainOf f i = min (domainAt f (variablesAt f) i) 65535
 
 -- "a choice of the day, universal".
 unfoldable pub universalOf : List ℕ → ℕ → Bool

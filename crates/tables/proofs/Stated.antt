@@ -1,33 +1,31 @@
 -- The arrays of an accepted file state its problem: what the constraints' numbers give by the index is what the look-up finds.
 use Prim.Native.Nat.{ℕ, _+_, _*_, _≤_, _<_}
 use mathlib.Core.Path.{_≡_, refl, sym, ap, _∙_}
-use mathlib.Core.Bool.{Bool, true, false, _&&_, _||_}
+use mathlib.Core.Bool.{Bool, true, false, _||_, or-false}
 use mathlib.Core.List.{List}
-use lib.Dec.{T, eqb}
 use lib.ListN.{length, getD, replicate, length-replicate, getD-replicate, List·getD-eq-default}
 use native.Mathlib.Omega.{arith}
-use borrow.Author.Tests.{eq-eqb, eqb-true}
 use Rattle.mask.specs.Range.{some}
 use Rattle.mask.specs.Mask.{bit, maskOf}
-use Rattle.mask.proofs.Logic.{same, holds, true-holds, fails, test, by-lt, clash, and-in, and-out, or-left, or-right, or-out}
-use Rattle.mask.proofs.Range.{some-out, some-in}
+use Rattle.mask.proofs.Logic.{holds, fails, test, by-lt, clash}
 use Rattle.mask.proofs.Bits.{bit-of-zero}
 use Rattle.mask.proofs.Masks.{bit-maskOf}
 use Rattle.game.specs.Problem.{Problem}
 use Rattle.arrays.specs.Arrays.{rowIn, InRange, States}
 use Rattle.refusal.specs.declared.Verdict.the-variants.{Fine}
 use Rattle.refusal.specs.declared.Verdict.the-variants.{Refused as Not}
-use Rattle.file_layout.specs.Layout.{nOf, mOf, oneAt, twoAt, rowAt, variablesAt, constraintsAt}
-use Rattle.file_records.specs.Records.{verdictOf}
 use Rattle.file_layout.specs.declared.Rules.{Rules}
 use Rattle.problem_file.specs.declared.Header.the-variants.{Accepted}
-use Rattle.problem_file.specs.Reading.{told, headerOf, universalBits}
-use Rattle.problem_file.proofs.Accepted.{accepted, file-length, header-shows, read-universal}
-use Rattle.pair_lookup.specs.Lookup.{lookUp}
-use Rattle.tables.specs.FileProblem.{universalOf, found, constrainedOf, compatibleOf, problemOf}
-use Rattle.tables.specs.Tables.{columnAt, nearTo, indexTo, rowsTo, nearStart, indexStart, rowsStart, joins, Pairs}
+use Rattle.problem_file.specs.Reading.{nOf, mOf, told, headerOf, universalBitsOf, verdictOf}
+use Rattle.problem_file.proofs.Accepted.{variables-most, header-shows, universal-shown}
+use Rattle.file_constraints.specs.Constraints.{constraintsAt, constraintOne, constraintTwo, constraintRow, joins, Constraints}
+use Rattle.file_constraints.specs.Pairs.{constrainedOf, compatibleOf}
+use Rattle.file_constraints.proofs.ConstraintLaws.{constraints-stand}
+use Rattle.file_constraints.proofs.PairLaws.{free-of, constrained-out, constrained-on, constrained-back, constrained-below, constrained-is, compatible-on, compatible-back}
+use Rattle.tables.specs.FileProblem.{problemOf}
+use Rattle.tables.specs.Tables.{columnOf, nearTo, indexTo, rowsTo, nearStart, indexStart, rowsStart}
 use Rattle.tables.specs.Decoded.{Decodes}
-use Rattle.tables.proofs.FileLaws.{place, most, fewer, pairs, below, found-has, found-of, compatible-on, compatible-back, compatible-free}
+use Rattle.tables.proofs.FileLaws.{problem-domains}
 use Rattle.tables.proofs.Entered.{rows-first, rows-at, columns-at, index-on, index-back, index-none, index-most, near-joins}
 
 -- ---- before the first constraint
@@ -156,12 +154,12 @@ module _ (f : List ℕ) (fine : verdictOf f ≡ Fine) where
       holds (free-of f u v e a b) ∙ sym (all-ones b s) ∙ ap (λ x. bit x b) (sym (row-free u a v x g y e)))
 
   -- The arrays state the problem.
-  pub stated : (byte : (k : ℕ) → getD f k 0 < 256) → States (problemOf f byte fine) (nOf f) (universalBits f (variablesAt f) (nOf f)) nearAll indexAll rowsAll
-  unfolding problemOf universalOf
-  stated byte = record {
+  pub stated : States (problemOf f fine) (nOf f) (universalBitsOf f) nearAll indexAll rowsAll
+  unfolding problemOf
+  stated = record {
     size = refl;
-    most = most f fine;
-    side = λ i h. sym (read-universal f (variablesAt f) (nOf f) i h);
+    most = variables-most f fine;
+    side = λ i h. sym (universal-shown f i h);
     joined = λ i j h g. joined i j;
     inside = λ i j h g. inside i j g;
     row = says;
@@ -176,56 +174,51 @@ not-both f e p g h = let z : _≡_ {A = ℕ} 0 1 = cc in omega arith
 pub leaves : (f near index rows : List ℕ) (e p : ℕ) → verdictOf f ≡ Not e p → Decodes f near index rows near index rows
 leaves f near index rows e p h = record {
   range = λ g. absurd (not-both f e p g h);
-  states = λ byte g. absurd (not-both f e p g h);
+  states = λ g. absurd (not-both f e p g h);
+  domains = λ g. absurd (not-both f e p g h);
   kept = λ k q g. (refl, refl, refl);
 }
 
--- The numbers of an accepted file, its variables from b on, are fit for entering it,
-pub ready : (f : List ℕ) (b n m : ℕ) → verdictOf f ≡ Fine → b ≡ variablesAt f → n ≡ nOf f → m ≡ mOf f →
-    (b + 4 * n + 36 * m ≤ length f) × (m ≤ 496) × Pairs f (b + 4 * n) m
-unfolding constraintsAt
-ready f b n m fine x y z =
-    rw (x, y, z) (
-      omega (arith, file-length f (accepted f fine)),
-      fewer f fine,
-      λ t h. let o = pairs f fine .order t h in (omega (arith, o .0, o .1), o .1),
-    )
+-- The constraints of an accepted file are fit for entering,
+pub ready : (f : List ℕ) (q m : ℕ) → verdictOf f ≡ Fine → q ≡ constraintsAt f → m ≡ mOf f → Constraints f q m
+ready f q m fine x y = rw (x, y) (constraints-stand f fine)
 
 -- and so it is entered whole.
-pub enters : (f near₀ index₀ rows₀ near index rows : List ℕ) (b n m : ℕ) → verdictOf f ≡ Fine → b ≡ variablesAt f → n ≡ nOf f → m ≡ mOf f →
-    near ≡ nearTo nearStart f (b + 4 * n) m → index ≡ indexTo indexStart f (b + 4 * n) m → rows ≡ rowsTo rowsStart f (b + 4 * n) m →
+pub enters : (f near₀ index₀ rows₀ near index rows : List ℕ) (q m : ℕ) → ((k : ℕ) → getD f k 0 < 256) → verdictOf f ≡ Fine →
+    q ≡ constraintsAt f → m ≡ mOf f →
+    near ≡ nearTo nearStart f q m → index ≡ indexTo indexStart f q m → rows ≡ rowsTo rowsStart f q m →
     Decodes f near₀ index₀ rows₀ near index rows
-unfolding constraintsAt
-enters f near₀ index₀ rows₀ near index rows b n m fine x y z e d g =
-    rw (e, d, g, x, y, z)
+enters f near₀ index₀ rows₀ near index rows q m bytes fine x y e d g =
+    rw (e, d, g, x, y)
     record {
       range = λ h. in-range f fine;
-      states = λ byte h. stated f h byte;
+      states = λ h. stated f h;
+      domains = λ h. problem-domains f h bytes;
       kept = λ k p h. absurd (not-both f k p fine h);
     }
 
 -- ---- for the crates above
 
 -- What a caller has of a file that decoding accepted with n variables and these universal bits.
-pub record Holds (f : List ℕ) (byte : (k : ℕ) → getD f k 0 < 256) (n universal : ℕ) (near index rows : List ℕ) : Type 0 where
+pub record Holds (f : List ℕ) (n universal : ℕ) (near index rows : List ℕ) : Type 0 where
   pub fine : verdictOf f ≡ Fine
   pub size : n ≡ nOf f
   pub most : n ≤ 32
   pub range : InRange index
-  pub states : States (problemOf f byte fine) n universal near index rows
+  pub states : States (problemOf f fine) n universal near index rows
 
 numbers-same : (P : Problem) (n d u w : ℕ) (near index rows : List ℕ) → n ≡ d → u ≡ w → States P d w near index rows → States P n u near index rows
 numbers-same P n d u w near index rows e g s = rw (e, g) s
 
 -- It follows from the header and the arrays of the reply.
 pub decoded : (f near₀ index₀ rows₀ near index rows : List ℕ) (n m : ℕ) (rules : Rules) (universal : ℕ) → told (Accepted n m rules universal) ≡ headerOf f →
-    Decodes f near₀ index₀ rows₀ near index rows → (byte : (k : ℕ) → getD f k 0 < 256) → Holds f byte n universal near index rows
-decoded f near₀ index₀ rows₀ near index rows n m rules universal e d byte =
+    Decodes f near₀ index₀ rows₀ near index rows → Holds f n universal near index rows
+decoded f near₀ index₀ rows₀ near index rows n m rules universal e d =
     let s = header-shows f n m rules universal e in
     record {
       fine = s .fine;
       size = s .variables;
-      most = omega (arith, s .variables, most f (s .fine));
+      most = omega (arith, s .variables, variables-most f (s .fine));
       range = d .range (s .fine);
-      states = numbers-same _ _ _ _ _ _ _ _ (s .variables) (s .bits) (d .states byte (s .fine));
+      states = numbers-same _ _ _ _ _ _ _ _ (s .variables) (s .bits) (d .states (s .fine));
     }

@@ -19,9 +19,9 @@ loop-holds c = (search needs, refl, refl, refl)
 
 put-constraint-requires : tie.Need-put-constraint-requires Inv-loop μ-loop
 put-constraint-requires c κs =
-    let h = c .before .before .before .before .pre in
-    let t = c .before .before .loop .t in
-    let l : t < c .before .before .before .before .args .m = omega arith in
+    let h = c .before .before .before .before .before .before .pre in
+    let t = c .before .before .before .before .loop .t in
+    let l : t < c .before .before .before .before .before .before .args .m = omega arith in
     let o = h .order t l in (h .whole t l, omega (arith, h .few), omega arith, o .1)
 
 add-t : tie.Need-add-t Inv-loop μ-loop
