@@ -6,7 +6,6 @@ use mathlib.Core.List.{List}
 use lib.Dec.{eqb}
 use lib.ListN.{length}
 use Rattle.file_layout.specs.Layout.{oneAt, twoAt, rowAt}
-
 -- Where the constraints of a file begin.
 pub use Rattle.file_layout.specs.Layout.{constraintsAt}
 

@@ -42,8 +42,8 @@ returns-2 c =
     let e = c .put-all .ensures in (
       c .before .before .before .before .before .before .before .before .read .ensures,
       enters _ _ _ _ _ _ _ _ _
-      (λ k. omega (arith, c .before .before .before .before .before .before .before .before .before .shared-slice-known .given k))
-      (s .fine) (c .before .before .before .before .constraints-at .ensures) (s .constraints) (e .0) (e .1 .0) (e .1 .1),
+          (λ k. omega (arith, c .before .before .before .before .before .before .before .before .before .shared-slice-known .given k))
+          (s .fine) (c .before .before .before .before .constraints-at .ensures) (s .constraints) (e .0) (e .1 .0) (e .1 .1),
     )
 
 pub decode-spec : {M : Type 1} → statement M
