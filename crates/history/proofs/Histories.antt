@@ -12,13 +12,13 @@ use Rattle.refusal.specs.declared.Verdict.the-variants.{Fine}
 use Rattle.refusal.specs.Chain.{_then_, need}
 use Rattle.rule_set.specs.RuleSet.{fullSet, isRuleSet}
 use Rattle.file_records.specs.Records.{verdictOf}
+use Rattle.problem_file.proofs.Accepted.{variables-most}
 use Rattle.game.specs.Problem.{Problem}
 use Rattle.game.specs.Position.{legal}
 use Rattle.game.specs.Calls.{Call, standing}
 use Rattle.game.specs.Winning.{winningValues}
 use Rattle.theory.proofs.Standing.{standing-legal}
 use Rattle.tables.specs.FileProblem.{problemOf}
-use Rattle.tables.proofs.FileLaws.{most}
 use Rattle.rules.proofs.ReadLaws.{read-fine}
 use Rattle.position.specs.declared.Position.{Position}
 use Rattle.position.specs.Position.{shown, playsOf, fitsIn}
@@ -38,7 +38,7 @@ module _ (f : List ℕ) (fine : verdictOf f ≡ Fine) where
 
   few : P .n ≤ 32
   unfolding problemOf
-  few = most f fine
+  few = variables-most f fine
 
   fits : (l : List ℕ) → T (legal P l) → fitsIn (shown l) (P .n) (P .domain) ≡ true
   fits l t = holds (legal-fit P few l t)

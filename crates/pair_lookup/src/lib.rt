@@ -1,5 +1,5 @@
 // The look-up of a pair of variables in a problem file: where its constraint's 16 rows stand. `look_up` and `rows` are
-// open to callers; `find` is for the crate tables. Rows are shown as a part of the caller's file, so nothing is copied.
+// open to callers. Rows are shown as a part of the caller's file, so nothing is copied.
 ghost use mathlib.Core.Path.{_≡_};
 ghost use mathlib.Core.Bool.{cond};
 ghost use mathlib.Core.List.{[], _∷_};
@@ -30,8 +30,8 @@ fn kept(h: bool, p: usize, before: Found) -> Found
     if h { Found::Rows(p) } else { before }
 }
 
-// The look-up in a file that is known to be accepted, with m constraints from q: it does not read the file again. For tables.
-pub fn find(f: &[u8], q: usize, m: usize, i: usize, j: usize) -> Found
+// The look-up in a file that is known to be accepted, with m constraints from q: it does not read the file again.
+fn find(f: &[u8], q: usize, m: usize, i: usize, j: usize) -> Found
     requires { ⌜ (q ≤ 200) × (m ≤ 496) × (i < 32) × (j < 32) ⌝ }
     ensures { λ r. ⌜ told r ≡ placeTo (now (f .entry)) q (pairOf i j) m ⌝ }
 {

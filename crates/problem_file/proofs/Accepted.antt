@@ -21,9 +21,9 @@ use Rattle.file_layout.specs.declared.Rules.{Rules}
 use Rattle.file_layout.specs.declared.Rules.the-variants.{Absent, Given}
 use Rattle.problem_file.specs.declared.Header.{Header}
 use Rattle.problem_file.specs.declared.Header.the-variants.{Accepted as Shown, Refused}
-use Rattle.file_layout.specs.Layout.{byte, marked, QP, EN, nOf, mOf, hasRules, rulesOf, variablesAt, domainAt, universalAt, constraintsAt, afterConstraints}
+use Rattle.file_layout.specs.Layout.{byte, word, marked, QP, EN, nOf, mOf, hasRules, rulesOf, variablesAt, domainAt, universalAt, constraintsAt, afterConstraints}
 use Rattle.file_records.specs.Records.{lastPair, restTest, verdictOf}
-use Rattle.problem_file.specs.Reading.{ruleNumbers, headerNumbers, told, universalBits, domainsTo, headerFor, domainsFor, headerOf, domainsOf}
+use Rattle.problem_file.specs.Reading.{ruleNumbers, headerNumbers, told, domainOf, universalOf, universalBits, universalBitsOf, domainsTo, headerFor, domainsFor, headerOf, domainsOf}
 use Rattle.file_layout.proofs.NumberLaws.{Counts}
 use Rattle.file_records.proofs.RecordLaws.{Head, Variable, Constraint, qp-out, qp-in, rs-out, rs-in, variables-out, variables-in, constraints-out, constraints-in, en-out, en-in}
 
@@ -61,6 +61,10 @@ accept f a =
     (then-ok _ _ (variables-in f _ _ (a .variable))
     (then-ok _ _ (constraints-in f _ _ _ _ (a .constraint)) (en-in f _ (a .size) (a .ends)))))
 
+-- "n, choices, 1 to 32".
+pub variables-most : (f : List ℕ) → verdictOf f ≡ Fine → nOf f ≤ 32
+variables-most f v = accepted f v .head .counts .most
+
 -- "The length is 7 + 4n + 36m, plus 3 with `RS`."
 pub file-length : (f : List ℕ) → Accepted f → length f ≡ variablesAt f + 4 * nOf f + 36 * mOf f + 2
 unfolding constraintsAt afterConstraints
@@ -89,7 +93,7 @@ pub record Shows (f : List ℕ) (n m : ℕ) (rules : Rules) (universal : ℕ) : 
   pub variables : n ≡ nOf f
   pub constraints : m ≡ mOf f
   pub set : rules ≡ rulesOf f
-  pub bits : universal ≡ universalBits f (variablesAt f) (nOf f)
+  pub bits : universal ≡ universalBitsOf f
 
 pub header-shows : (f : List ℕ) (n m : ℕ) (rules : Rules) (universal : ℕ) → told (Shown n m rules universal) ≡ headerOf f → Shows f n m rules universal
 unfolding told headerFor headerNumbers
@@ -119,6 +123,10 @@ unfolding domainsTo
 length-domains f b zero = refl
 length-domains f b (suc k) = simp length-set (length-domains f b k)
 
+pub domains-length : (f : List ℕ) → verdictOf f ≡ Fine → length (domainsOf f) ≡ 32
+unfolding domainsFor
+domains-length f v = ap length (domains-is f Fine v) ∙ length-domains f (variablesAt f) (nOf f)
+
 pub domain-in : (f : List ℕ) (b k i : ℕ) → k ≤ 32 → i < k → getD (domainsTo f b k) i 0 ≡ domainAt f b i
 unfolding domainsTo
 domain-in f b zero i l h = absurd (omega arith)
@@ -138,6 +146,25 @@ pub domain-some : (f : List ℕ) → verdictOf f ≡ Fine → (i : ℕ) → i < 
 unfolding domainAt
 domain-some f v i h e = accepted f v .variable i h .domain (sym (read-domain f v i h) ∙ e)
 
+-- Every list's domains are below 2^16, and none of an accepted one is zero; of bytes they are those of the reply.
+pub domain-small : (f : List ℕ) (i : ℕ) → domainOf f i < 65536
+unfolding domainOf
+domain-small f i = omega arith
+
+pub domain-full : (f : List ℕ) → verdictOf f ≡ Fine → (i : ℕ) → i < nOf f → ¬ (domainOf f i ≡ 0)
+unfolding domainOf domainAt
+domain-full f v i h e = accepted f v .variable i h .domain (omega arith)
+
+pub domain-read : (f : List ℕ) → ((k : ℕ) → getD f k 0 < 256) → verdictOf f ≡ Fine → (i : ℕ) → i < nOf f → getD (domainsOf f) i 0 ≡ domainOf f i
+unfolding domainOf domainAt word
+domain-read f bytes v i h =
+    let p = variablesAt f + 4 * i + 2 in
+    omega (arith, read-domain f v i h, bytes p, bytes (p + 1))
+
 pub read-universal : (f : List ℕ) (b n i : ℕ) → i < n → bit (universalBits f b n) i ≡ universalAt f b i
 unfolding universalBits
 read-universal f b n i h = bit-maskOf n (universalAt f b) i h
+
+pub universal-shown : (f : List ℕ) (i : ℕ) → i < nOf f → bit (universalBitsOf f) i ≡ universalOf f i
+unfolding universalOf
+universal-shown f i h = read-universal f (variablesAt f) (nOf f) i h

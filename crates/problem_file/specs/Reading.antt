@@ -1,6 +1,7 @@
 -- What reading tells: of an accepted file n, m, the rule set or none, the universal bits and the domains; else the number and the
--- place, "Nothing else is returned".
-use Prim.Native.Nat.{ℕ, zero, suc}
+-- place, "Nothing else is returned". The crates above name a file's numbers and its verdict by what this module passes on.
+use Prim.Native.Nat.{ℕ, zero, suc, min}
+use mathlib.Core.Bool.{Bool}
 use mathlib.Core.List.{List, [], _∷_, _++_}
 use lib.ListN.{set, replicate}
 use Rattle.mask.specs.Mask.{maskOf}
@@ -12,8 +13,9 @@ use Rattle.file_layout.specs.declared.Rules.{Rules}
 use Rattle.file_layout.specs.declared.Rules.the-variants.{Absent, Given}
 use Rattle.problem_file.specs.declared.Header.{Header}
 use Rattle.problem_file.specs.declared.Header.the-variants.{Accepted, Refused}
-use Rattle.file_layout.specs.Layout.{nOf, mOf, rulesOf, variablesAt, domainAt, universalAt}
-use Rattle.file_records.specs.Records.{verdictOf}
+use Rattle.file_layout.specs.Layout.{rulesOf, variablesAt, domainAt, universalAt}
+pub use Rattle.file_layout.specs.Layout.{nOf, mOf}
+pub use Rattle.file_records.specs.Records.{verdictOf}
 
 -- The rule set's number, if there is one.
 unfoldable pub ruleNumbers : Rules → List ℕ
@@ -29,9 +31,21 @@ unfoldable pub told : Header → Told
 told (Accepted n m rules universal) = replied (headerNumbers n m rules universal)
 told (Refused e p) = refusedAt e p
 
--- The universal variables among the first n, as bits.
+-- "two bytes, a mask of options": a number of 16 bits. The bound cuts nothing in a slice, whose elements are bytes (`domain-read` in
+-- `proofs/Accepted.antt`), and it keeps a domain that is not zero.
+unfoldable pub domainOf : List ℕ → ℕ → ℕ
+domainOf f i = min (domainAt f (variablesAt f) i) 65535
+
+-- "a choice of the day, universal".
+unfoldable pub universalOf : List ℕ → ℕ → Bool
+universalOf f i = universalAt f (variablesAt f) i
+
+-- The universal variables among the first n, as bits; and those of a file.
 unfoldable pub universalBits : List ℕ → ℕ → ℕ → ℕ
 universalBits f b n = maskOf n (universalAt f b)
+
+abbrev pub universalBitsOf : List ℕ → ℕ
+universalBitsOf f = universalBits f (variablesAt f) (nOf f)
 
 -- The first k domains of 32, the others zero.
 unfoldable pub domainsTo : List ℕ → ℕ → ℕ → List ℕ
@@ -39,7 +53,7 @@ domainsTo f b zero = replicate 32 0
 domainsTo f b (suc k) = set (domainsTo f b k) k (domainAt f b k)
 
 unfoldable pub headerFor : Verdict → List ℕ → Told
-headerFor Fine f = replied (headerNumbers (nOf f) (mOf f) (rulesOf f) (universalBits f (variablesAt f) (nOf f)))
+headerFor Fine f = replied (headerNumbers (nOf f) (mOf f) (rulesOf f) (universalBitsOf f))
 headerFor (Not e p) f = refusedAt e p
 
 unfoldable pub domainsFor : Verdict → List ℕ → List ℕ

@@ -20,7 +20,7 @@ use Rattle.file_layout.specs.declared.Rules.the-variants.{Absent, Given}
 use Rattle.file_layout.specs.Layout.{byte, nOf, mOf, hasRules, rulesOf, variablesAt, domainAt, universalAt, oneAt, twoAt, rowAt, pairAt, constraintsAt}
 use Rattle.file_records.specs.Records.{lastPair, verdictOf}
 use Rattle.problem_file.specs.Reading.{headerNumbers, told, universalBits, domainsTo, headerFor, domainsFor, headerOf, domainsOf}
-use Rattle.problem_file.proofs.Accepted.{Accepted, accepted, file-length, header-is, domains-is, header-shows, length-domains, domain-in, read-domain, domain-some, read-universal}
+use Rattle.problem_file.proofs.Accepted.{Accepted, accepted, file-length, header-is, domains-is, header-shows, length-domains, domains-length, domain-in, read-domain, domain-some, read-universal}
 use Rattle.pair_lookup.specs.Lookup.{constraintsShown, numbersTo}
 use Rattle.pair_lookup.proofs.Shown.{length-numbers, number-one, number-two, number-row, shown-all}
 use Rattle.file_bytes.specs.Bytes.{bytesOf, numbersIn, startOf, lengthOf, domainIn, oneIn, twoIn, rowIn}
@@ -72,11 +72,11 @@ module _ (f : List ℕ) (fine : verdictOf f ≡ Fine) where
   -- The writer takes it.
   writable-shown : (room : ℕ) → length f ≤ room →
       Writable (nOf f) (mOf f) (rulesOf f) (universalBits f (variablesAt f) (nOf f)) (take (nOf f) (domainsOf f)) (constraintsShown f) room
-  unfolding universalBits domainsFor lengthOf
+  unfolding universalBits lengthOf
   writable-shown room h =
       let a = accepted f fine in
       let n : nOf f ≤ 32 = a .head .counts .most in
-      let d : length (domainsOf f) ≡ 32 = ap length (domains-is f Fine fine) ∙ length-domains f (variablesAt f) (nOf f) in
+      let d = domains-length f fine in
       record {
         counts = a .head .counts;
         domains-long = length-take (nOf f) (domainsOf f) ∙ omega arith;

@@ -16,6 +16,7 @@ use Rattle.refusal.proofs.Chain.{need-ok}
 use Rattle.refusal.specs.Told.{replied, refused}
 use Rattle.file_layout.specs.Layout.{nOf}
 use Rattle.file_records.specs.Records.{verdictOf}
+use Rattle.problem_file.proofs.Accepted.{variables-most}
 use Rattle.game.specs.Problem.{Problem}
 use Rattle.game.specs.Lists.{domains}
 use Rattle.game.specs.Position.{legal}
@@ -24,7 +25,6 @@ use Rattle.game.specs.Open.{openValues, openCounts}
 use Rattle.theory.proofs.TurnLists.{legal-out}
 use Rattle.theory.proofs.Standing.{legal-after, standing-legal}
 use Rattle.tables.specs.FileProblem.{problemOf}
-use Rattle.tables.proofs.FileLaws.{most}
 use Rattle.position.specs.declared.Position.{Position}
 use Rattle.position.specs.Position.{shown, playsOf, fitsIn}
 use Rattle.position.proofs.Fitting.{legal-fits}
@@ -115,7 +115,7 @@ module _ (f : List ℕ) (fine : verdictOf f ≡ Fine) where
 
   few : P .n ≤ 32
   unfolding problemOf
-  few = most f fine
+  few = variables-most f fine
 
   -- One call on a position that shows legal plays: what it tells is what the plain list says, and it shows the plays that then stand.
   call-told : (l : List ℕ) (c : Call) → T (legal P l) → callTold f (shown l) c ≡ listTold P l c

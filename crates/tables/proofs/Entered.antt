@@ -1,7 +1,7 @@
 -- The arrays after the first k constraints, place by place: which words the constraints have, and that all others are as they were.
 use Prim.Native.Nat.{ℕ, zero, suc, _+_, _*_, _^_, _≤_, _<_}
-use mathlib.Core.Path.{_≡_, refl, ap, _∙_}
-use mathlib.Core.Bool.{Bool, true, false, _&&_, _||_}
+use mathlib.Core.Path.{_≡_, refl, sym, ap, _∙_}
+use mathlib.Core.Bool.{Bool, true, false, _&&_, _||_, or-assoc, or-comm}
 use mathlib.Core.List.{List}
 use mathlib.Core.Logic.{⊎-elim}
 use lib.Bits.{bitOr}
@@ -15,8 +15,8 @@ use Rattle.mask.specs.Range.{some}
 use Rattle.mask.specs.Mask.{bit}
 use Rattle.mask.proofs.Logic.{by-eq}
 use Rattle.mask.proofs.Bits.{bit-or, bit-single}
-use Rattle.file_layout.specs.Layout.{oneAt, twoAt, rowAt}
-use Rattle.tables.specs.Tables.{columnAt, putTo, added, linked, numbered, nearWith, indexWith, rowsWith, nearTo, indexTo, rowsTo, joins}
+use Rattle.file_constraints.specs.Constraints.{constraintOne, constraintTwo, constraintRow, joins, Constraints}
+use Rattle.tables.specs.Tables.{columnOf, putTo, added, linked, numbered, nearWith, indexWith, rowsWith, nearTo, indexTo, rowsTo}
 use Rattle.tables.proofs.Runs.{length-put, put-in, put-before}
 
 -- ---- rows
@@ -26,13 +26,13 @@ module _ (l f : List ℕ) (q : ℕ) where
   pub length-rows : (k : ℕ) → length (rowsTo l f q k) ≡ length l
   unfolding rowsTo rowsWith
   length-rows zero = refl
-  length-rows (suc k) = length-put _ (32 * k + 32) (columnAt f (q + 36 * k)) 16 ∙ length-put _ (32 * k + 16) (rowAt f (q + 36 * k)) 16 ∙ length-rows k
+  length-rows (suc k) = length-put _ (32 * k + 32) (columnOf f q k) 16 ∙ length-put _ (32 * k + 16) (constraintRow f q k) 16 ∙ length-rows k
 
   -- One more constraint leaves the words before its own.
   rows-more : (k x : ℕ) → x < 32 * k + 16 → getD (rowsTo l f q (suc k)) x 0 ≡ getD (rowsTo l f q k) x 0
   unfolding rowsTo rowsWith
   rows-more k x h =
-      put-before _ (32 * k + 32) (columnAt f (q + 36 * k)) 16 x (omega arith) ∙ put-before _ (32 * k + 16) (rowAt f (q + 36 * k)) 16 x h
+      put-before _ (32 * k + 32) (columnOf f q k) 16 x (omega arith) ∙ put-before _ (32 * k + 16) (constraintRow f q k) 16 x h
 
   -- Block 0 is as it was.
   pub rows-first : (k x : ℕ) → x < 16 → getD (rowsTo l f q k) x 0 ≡ getD l x 0
@@ -41,27 +41,27 @@ module _ (l f : List ℕ) (q : ℕ) where
   rows-first (suc k) x h = rows-more k x (omega arith) ∙ rows-first k x h
 
   -- The two blocks of constraint t.
-  pub rows-at : (k t a : ℕ) → 32 * k + 16 ≤ length l → t < k → a < 16 → getD (rowsTo l f q k) (32 * t + 16 + a) 0 ≡ rowAt f (q + 36 * t) a
+  pub rows-at : (k t a : ℕ) → 32 * k + 16 ≤ length l → t < k → a < 16 → getD (rowsTo l f q k) (32 * t + 16 + a) 0 ≡ constraintRow f q t a
   unfolding rowsTo rowsWith
   rows-at zero t a h g s = absurd (omega arith)
   rows-at (suc k) t a h g s =
       ⊎-elim
       (λ (e : t ≡ k).
       rw e
-      (put-before _ (32 * k + 32) (columnAt f (q + 36 * k)) 16 (32 * k + 16 + a) (omega arith)
-      ∙ put-in (rowsTo l f q k) (32 * k + 16) (rowAt f (q + 36 * k)) 16 a (omega (arith, length-rows k)) s))
+      (put-before _ (32 * k + 32) (columnOf f q k) 16 (32 * k + 16 + a) (omega arith)
+      ∙ put-in (rowsTo l f q k) (32 * k + 16) (constraintRow f q k) 16 a (omega (arith, length-rows k)) s))
       (λ (e : t < k). rows-more k (32 * t + 16 + a) (omega arith) ∙ rows-at k t a (omega arith) e s)
       (eq-or-lt-of-le (le-of-suc-le-suc g))
 
-  pub columns-at : (k t b : ℕ) → 32 * k + 16 ≤ length l → t < k → b < 16 → getD (rowsTo l f q k) (32 * t + 32 + b) 0 ≡ columnAt f (q + 36 * t) b
+  pub columns-at : (k t b : ℕ) → 32 * k + 16 ≤ length l → t < k → b < 16 → getD (rowsTo l f q k) (32 * t + 32 + b) 0 ≡ columnOf f q t b
   unfolding rowsTo rowsWith
   columns-at zero t b h g s = absurd (omega arith)
   columns-at (suc k) t b h g s =
       ⊎-elim
       (λ (e : t ≡ k).
       rw e
-      (put-in (putTo (rowsTo l f q k) (32 * k + 16) (rowAt f (q + 36 * k)) 16) (32 * k + 32) (columnAt f (q + 36 * k)) 16 b
-      (omega (arith, length-rows k, length-put (rowsTo l f q k) (32 * k + 16) (rowAt f (q + 36 * k)) 16)) s))
+      (put-in (putTo (rowsTo l f q k) (32 * k + 16) (constraintRow f q k) 16) (32 * k + 32) (columnOf f q k) 16 b
+      (omega (arith, length-rows k, length-put (rowsTo l f q k) (32 * k + 16) (constraintRow f q k) 16)) s))
       (λ (e : t < k). rows-more k (32 * t + 32 + b) (omega arith) ∙ columns-at k t b (omega arith) e s)
       (eq-or-lt-of-le (le-of-suc-le-suc g))
 
@@ -89,18 +89,12 @@ module _ (l : List ℕ) (i j t : ℕ) where
       getD-set-other (set l (32 * i + j) (2 * t + 1)) (32 * j + i) (32 * i + j) (2 * t + 2) 0 (λ e. omega arith)
       ∙ getD-set-same l (32 * i + j) (2 * t + 1) 0 h
 
--- The first m constraints from q are each of two variables in order, and their pairs ascend.
-pub record Ascending (f : List ℕ) (q m : ℕ) : Type 0 where
-  pub order : (t : ℕ) → t < m → (oneAt f (q + 36 * t) < twoAt f (q + 36 * t)) × (twoAt f (q + 36 * t) < 32)
-  pub ascends : (s t : ℕ) → s < t → t < m →
-      32 * oneAt f (q + 36 * s) + twoAt f (q + 36 * s) < 32 * oneAt f (q + 36 * t) + twoAt f (q + 36 * t)
-
-module _ (l f : List ℕ) (q m : ℕ) (size : length l ≡ 1024) (pairs : Ascending f q m) where
+module _ (l f : List ℕ) (q m : ℕ) (size : length l ≡ 1024) (pairs : Constraints f q m) where
   abbrev one : ℕ → ℕ
-  one t = oneAt f (q + 36 * t)
+  one t = constraintOne f q t
 
   abbrev two : ℕ → ℕ
-  two t = twoAt f (q + 36 * t)
+  two t = constraintTwo f q t
 
   length-index : (k : ℕ) → length (indexTo l f q k) ≡ 1024
   unfolding indexTo indexWith
@@ -163,22 +157,9 @@ module _ (l f : List ℕ) (q m : ℕ) (size : length l ≡ 1024) (pairs : Ascend
 
 -- ---- neighbours
 
--- Disjunctions of two and three, in another order.
-or-swapped : (a b : Bool) → a || b ≡ b || a
-or-swapped true true = refl
-or-swapped true false = refl
-or-swapped false true = refl
-or-swapped false false = refl
-
+-- Disjunctions of three, in another order.
 or-turned : (a b c : Bool) → a || (b || c) ≡ (b || a) || c
-or-turned true true c = refl
-or-turned true false c = refl
-or-turned false true c = refl
-or-turned false false c = refl
-
-or-grouped : (a b c : Bool) → a || (b || c) ≡ (a || b) || c
-or-grouped true b c = refl
-or-grouped false b c = refl
+or-turned a b c = sym (or-assoc a b c) ∙ ap (λ x. x || c) (or-comm a b)
 
 length-added : (l : List ℕ) (i j : ℕ) → length (added l i j) ≡ length l
 unfolding added
@@ -191,16 +172,16 @@ bit-added l i j u v h =
     by-eq u i
     (λ e.
     rw (e, eq-eqb i i refl, getD-set-same l i (bitOr (getD l i 0) (2 ^ j)) 0 h, bit-or, bit-single)
-    (or-swapped (bit (getD l i 0) v) (eqb v j)))
+    (or-comm (bit (getD l i 0) v) (eqb v j)))
     (λ d. rw (ne-eqb u i d, getD-set-other l i u (bitOr (getD l i 0) (2 ^ j)) 0 d))
 
-module _ (l f : List ℕ) (q m : ℕ) (size : length l ≡ 32) (pairs : Ascending f q m) where
+module _ (l f : List ℕ) (q m : ℕ) (size : length l ≡ 32) (pairs : Constraints f q m) where
   length-near : (k : ℕ) → length (nearTo l f q k) ≡ 32
   unfolding nearTo nearWith linked
   length-near zero = size
   length-near (suc k) =
-      length-added (added (nearTo l f q k) (oneAt f (q + 36 * k)) (twoAt f (q + 36 * k))) (twoAt f (q + 36 * k)) (oneAt f (q + 36 * k))
-      ∙ length-added (nearTo l f q k) (oneAt f (q + 36 * k)) (twoAt f (q + 36 * k))
+      length-added (added (nearTo l f q k) (constraintOne f q k) (constraintTwo f q k)) (constraintTwo f q k) (constraintOne f q k)
+      ∙ length-added (nearTo l f q k) (constraintOne f q k) (constraintTwo f q k)
       ∙ length-near k
 
   -- The neighbours of u are those that some constraint joins with it, and those there were.
@@ -208,12 +189,12 @@ module _ (l f : List ℕ) (q m : ℕ) (size : length l ≡ 32) (pairs : Ascendin
   unfolding nearTo nearWith linked some joins
   near-joins zero u v h = refl
   near-joins (suc k) u v h =
-      let i = oneAt f (q + 36 * k) in
-      let j = twoAt f (q + 36 * k) in
+      let i = constraintOne f q k in
+      let j = constraintTwo f q k in
       let o = pairs .order k (omega arith) in
       let w = nearTo l f q k in
       bit-added (added w i j) j i u v (omega (arith, length-added w i j, length-near k))
       ∙ ap (λ r. (eqb u j && eqb v i) || r) (bit-added w i j u v (omega (arith, length-near k)))
       ∙ or-turned (eqb u j && eqb v i) (eqb u i && eqb v j) (bit (getD w u 0) v)
       ∙ ap (λ r. joins f q u v k || r) (near-joins k u v (omega arith))
-      ∙ or-grouped (joins f q u v k) (some k (λ t. true) (joins f q u v)) (bit (getD l u 0) v)
+      ∙ sym (or-assoc (joins f q u v k) (some k (λ t. true) (joins f q u v)) (bit (getD l u 0) v))

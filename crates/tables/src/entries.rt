@@ -1,13 +1,13 @@
-// Constraints entered one by one. Constraint t of the pair (i, j) has the blocks 2t + 1, from i towards j, and 2t + 2, from j
+// Constraints entered one by one, of those from q on. Constraint t of the pair (i, j) has the blocks 2t + 1, from i towards j, and 2t + 2, from j
 // towards i; block 0 serves every pair that no constraint joins.
 ghost use mathlib.Core.Path.{_≡_};
-ghost use Prim.Native.Nat.{_+_, _*_, _≤_, _<_};
-ghost use lib.ListN.{length};
-ghost use Rattle.file_layout.specs.Layout.{oneAt, twoAt};
-ghost use Rattle.tables.specs.Tables.{linked, numbered, nearWith, indexWith, rowsWith, nearTo, indexTo, rowsTo, nearStart, indexStart, rowsStart, Pairs};
+ghost use Prim.Native.Nat.{_<_};
+ghost use Rattle.file_constraints.specs.Constraints.{constraintOne, constraintTwo, Whole, Constraints};
+ghost use Rattle.tables.specs.Tables.{linked, numbered, nearWith, indexWith, rowsWith, nearTo, indexTo, rowsTo, nearStart, indexStart, rowsStart};
 use crate::rows::put_columns;
 use crate::rows::put_rows;
-use file_layout::byte_at;
+use file_constraints::constraint_one;
+use file_constraints::constraint_two;
 use mask::single_32;
 
 // i and j become neighbours.
@@ -28,29 +28,29 @@ fn put_index(index: &mut [u16; 1024], i: usize, j: usize, t: usize)
     index[32 * j + i] = (2 * t + 2) as u16;
 }
 
-// Constraint t, which stands at p.
+// Constraint t.
 fn put_constraint(
     f: &[u8],
-    p: usize,
+    q: usize,
     t: usize,
     near: &mut [u32; 32],
     index: &mut [u16; 1024],
     rows: &mut [u16; 15888],
 )
-    requires { ⌜ (p + 36 ≤ length (now f)) × (t < 496) × (oneAt (now f) p < 32) × (twoAt (now f) p < 32) ⌝ }
-    ensures { λ _. ⌜ now (near .exit) ≡ nearWith (now (near .entry)) (now (f .entry)) p ⌝ }
-    ensures { λ _. ⌜ now (index .exit) ≡ indexWith (now (index .entry)) (now (f .entry)) p t ⌝ }
-    ensures { λ _. ⌜ now (rows .exit) ≡ rowsWith (now (rows .entry)) (now (f .entry)) p t ⌝ }
+    requires { ⌜ Whole (now f) q t × (t < 496) × (constraintOne (now f) q t < 32) × (constraintTwo (now f) q t < 32) ⌝ }
+    ensures { λ _. ⌜ now (near .exit) ≡ nearWith (now (near .entry)) (now (f .entry)) q t ⌝ }
+    ensures { λ _. ⌜ now (index .exit) ≡ indexWith (now (index .entry)) (now (f .entry)) q t ⌝ }
+    ensures { λ _. ⌜ now (rows .exit) ≡ rowsWith (now (rows .entry)) (now (f .entry)) q t ⌝ }
 {
-    let i = byte_at(f, p + 2);
-    let j = byte_at(f, p + 3);
+    let i = constraint_one(f, q, t);
+    let j = constraint_two(f, q, t);
     put_near(near, i, j);
     put_index(index, i, j, t);
-    put_rows(f, p, rows, 32 * t + 16);
-    put_columns(f, p, rows, 32 * t + 32);
+    put_rows(f, q, t, rows, 32 * t + 16);
+    put_columns(f, q, t, rows, 32 * t + 32);
 }
 
-// The m constraints from q on.
+// The first m constraints.
 fn put_constraints(
     f: &[u8],
     q: usize,
@@ -59,14 +59,14 @@ fn put_constraints(
     index: &mut [u16; 1024],
     rows: &mut [u16; 15888],
 )
-    requires { ⌜ (q + 36 * m ≤ length (now f)) × (m ≤ 496) × Pairs (now f) q m ⌝ }
+    requires { ⌜ Constraints (now f) q m ⌝ }
     ensures { λ _. ⌜ now (near .exit) ≡ nearTo (now (near .entry)) (now (f .entry)) q m ⌝ }
     ensures { λ _. ⌜ now (index .exit) ≡ indexTo (now (index .entry)) (now (f .entry)) q m ⌝ }
     ensures { λ _. ⌜ now (rows .exit) ≡ rowsTo (now (rows .entry)) (now (f .entry)) q m ⌝ }
 {
     let mut t = 0;
     while t < m {
-        put_constraint(f, q + 36 * t, t, near, index, rows);
+        put_constraint(f, q, t, near, index, rows);
         t += 1;
     }
 }
@@ -80,7 +80,7 @@ fn clear(near: &mut [u32; 32], index: &mut [u16; 1024], rows: &mut [u16; 15888])
     *rows = [65535u16; 15888];
 }
 
-// The arrays of a file with m constraints from q on.
+// The arrays of m constraints from q on.
 pub fn put_all(
     f: &[u8],
     q: usize,
@@ -89,7 +89,7 @@ pub fn put_all(
     index: &mut [u16; 1024],
     rows: &mut [u16; 15888],
 )
-    requires { ⌜ (q + 36 * m ≤ length (now f)) × (m ≤ 496) × Pairs (now f) q m ⌝ }
+    requires { ⌜ Constraints (now f) q m ⌝ }
     ensures { λ _. ⌜ now (near .exit) ≡ nearTo nearStart (now (f .entry)) q m ⌝ }
     ensures { λ _. ⌜ now (index .exit) ≡ indexTo indexStart (now (f .entry)) q m ⌝ }
     ensures { λ _. ⌜ now (rows .exit) ≡ rowsTo rowsStart (now (f .entry)) q m ⌝ }

@@ -9,7 +9,7 @@ mod entries;
 mod rows;
 
 use entries::put_all;
-use file_layout::variables_at;
+use file_constraints::constraints_at;
 use problem_file::Header;
 use problem_file::Reading;
 use problem_file::read;
@@ -28,8 +28,8 @@ pub fn decode(
     let h = r.header;
     match h {
         Header::Refused(_, _) => r,
-        Header::Accepted(n, m, _, _) => {
-            let q = variables_at(f) + 4 * (n as usize);
+        Header::Accepted(_, m, _, _) => {
+            let q = constraints_at(f);
             put_all(f, q, m as usize, near, index, rows);
             r
         }

@@ -1,12 +1,11 @@
-// The rows of one constraint, which stands at p, in both directions.
+// The rows of constraint t of those from q on, in both directions.
 ghost use mathlib.Core.Path.{_≡_};
 ghost use mathlib.Core.Bool.{cond};
 ghost use Prim.Native.Nat.{_+_, _≤_, _<_, _^_};
 ghost use lib.Bits.{bitOr};
-ghost use lib.ListN.{length};
-ghost use Rattle.file_layout.specs.Layout.{rowAt};
-ghost use Rattle.tables.specs.Tables.{columnAt, putTo};
-use file_layout::word_at;
+ghost use Rattle.file_constraints.specs.Constraints.{constraintRow, Whole};
+ghost use Rattle.tables.specs.Tables.{columnOf, putTo};
+use file_constraints::constraint_row;
 use mask::contains;
 use mask::single;
 
@@ -19,39 +18,39 @@ fn with_value(m: u16, k: usize, set: bool) -> u16
 }
 
 // The values of i that go with value b of j.
-fn column(f: &[u8], p: usize, b: usize) -> u16
-    requires { ⌜ (p + 36 ≤ length (now f)) × (b < 16) ⌝ }
-    ensures { λ r. ⌜ r ≡ columnAt (now (f .entry)) p b ⌝ }
+fn column(f: &[u8], q: usize, t: usize, b: usize) -> u16
+    requires { ⌜ Whole (now f) q t × (b < 16) ⌝ }
+    ensures { λ r. ⌜ r ≡ columnOf (now (f .entry)) q t b ⌝ }
 {
     let mut out: u16 = 0;
     let mut a = 0;
     while a < 16 {
-        out = with_value(out, a, contains(word_at(f, p + 4 + 2 * a), b));
+        out = with_value(out, a, contains(constraint_row(f, q, t, a), b));
         a += 1;
     }
     out
 }
 
 // The rows from i towards j, from base on.
-pub fn put_rows(f: &[u8], p: usize, rows: &mut [u16; 15888], base: usize)
-    requires { ⌜ (p + 36 ≤ length (now f)) × (base + 16 ≤ 15888) ⌝ }
-    ensures { λ _. ⌜ now (rows .exit) ≡ putTo (now (rows .entry)) base (rowAt (now (f .entry)) p) 16 ⌝ }
+pub fn put_rows(f: &[u8], q: usize, t: usize, rows: &mut [u16; 15888], base: usize)
+    requires { ⌜ Whole (now f) q t × (base + 16 ≤ 15888) ⌝ }
+    ensures { λ _. ⌜ now (rows .exit) ≡ putTo (now (rows .entry)) base (constraintRow (now (f .entry)) q t) 16 ⌝ }
 {
     let mut a = 0;
     while a < 16 {
-        rows[base + a] = word_at(f, p + 4 + 2 * a);
+        rows[base + a] = constraint_row(f, q, t, a);
         a += 1;
     }
 }
 
 // The rows from j towards i.
-pub fn put_columns(f: &[u8], p: usize, rows: &mut [u16; 15888], base: usize)
-    requires { ⌜ (p + 36 ≤ length (now f)) × (base + 16 ≤ 15888) ⌝ }
-    ensures { λ _. ⌜ now (rows .exit) ≡ putTo (now (rows .entry)) base (columnAt (now (f .entry)) p) 16 ⌝ }
+pub fn put_columns(f: &[u8], q: usize, t: usize, rows: &mut [u16; 15888], base: usize)
+    requires { ⌜ Whole (now f) q t × (base + 16 ≤ 15888) ⌝ }
+    ensures { λ _. ⌜ now (rows .exit) ≡ putTo (now (rows .entry)) base (columnOf (now (f .entry)) q t) 16 ⌝ }
 {
     let mut b = 0;
     while b < 16 {
-        rows[base + b] = column(f, p, b);
+        rows[base + b] = column(f, q, t, b);
         b += 1;
     }
 }

@@ -49,12 +49,19 @@ getD-listOf (suc n) f (suc i) h = getD-listOf n (λ i. f (suc i)) i (omega arith
 pub getD-beyond : (n : ℕ) (f : ℕ → ℕ) (i : ℕ) → n ≤ i → getD (listOf n f) i 0 ≡ 0
 getD-beyond n f i h = let e = length-listOf n f in List·getD-eq-default (listOf n f) 0 {n = i} (omega arith)
 
+-- Its numbers are below w where every f i is, and not zero where no f i is.
+pub listOf-below : (n : ℕ) (f : ℕ → ℕ) (w : ℕ) → ((i : ℕ) → f i < w) → (i : ℕ) → getD (listOf n f) i 0 < w
+listOf-below n f w h i = by-lt i n (λ l. omega (arith, getD-listOf n f i l, h i)) (λ l. omega (arith, getD-beyond n f i l, h i))
+
+pub listOf-some : (n : ℕ) (f : ℕ → ℕ) → ((i : ℕ) → i < n → ¬ (f i ≡ 0)) → (i : ℕ) → i < n → ¬ (getD (listOf n f) i 0 ≡ 0)
+listOf-some n f h i l e = h i l (sym (getD-listOf n f i l) ∙ e)
+
 -- The masks of domains are n masks of 16 bits, and state these domains.
 pub masksOf-masks : (n : ℕ) (D : Domains) → Masks n (masksOf n D)
 unfolding masksOf
 masksOf-masks n D = record {
   size = length-listOf n (λ i. maskOf 16 (D i));
-  small = λ i. by-lt i n (λ h. rw (getD-listOf n (λ i. maskOf 16 (D i)) i h) (maskOf-lt 16 (D i))) (λ h. rw (getD-beyond n (λ i. maskOf 16 (D i)) i h) (omega arith));
+  small = listOf-below n (λ i. maskOf 16 (D i)) 65536 (λ i. maskOf-lt 16 (D i));
 }
 
 pub domains-masksOf : (n : ℕ) (D : Domains) → Boxed n D → domains (masksOf n D) ≡ D

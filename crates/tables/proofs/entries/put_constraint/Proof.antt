@@ -3,17 +3,11 @@ use Rattle.tables.specs.Tables.{nearWith, indexWith, rowsWith}
 use Rattle.tables.proofs.entries.put_constraint.Statement.{statement}
 use Rattle.tables.proofs.entries.put_constraint.Tie as tie
 
-add-byte-at : tie.Need-add-byte-at
-add-byte-at c = search needs
+constraint-one-requires : tie.Need-constraint-one-requires
+constraint-one-requires c κs = search needs
 
-byte-at-requires : tie.Need-byte-at-requires
-byte-at-requires c κs = search needs
-
-add-byte-at-2 : tie.Need-add-byte-at-2
-add-byte-at-2 c = search needs
-
-byte-at-requires-2 : tie.Need-byte-at-requires-2
-byte-at-requires-2 c κs = search needs
+constraint-two-requires : tie.Need-constraint-two-requires
+constraint-two-requires c κs = search needs
 
 put-near-requires : tie.Need-put-near-requires
 put-near-requires c κs = search needs
@@ -47,10 +41,8 @@ pub put-constraint-spec : {M : Type 1} → statement M
 put-constraint-spec =
     tie.close
     (tie.spec
-    add-byte-at
-    byte-at-requires
-    add-byte-at-2
-    byte-at-requires-2
+    constraint-one-requires
+    constraint-two-requires
     put-near-requires
     put-index-requires
     mul-put-rows

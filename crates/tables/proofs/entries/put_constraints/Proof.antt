@@ -1,4 +1,4 @@
-use Prim.Native.Nat.{_≤_, _-_}
+use Prim.Native.Nat.{_≤_, _<_, _-_}
 use borrow.Author.Needs.{needs}
 use mathlib.Core.Path.{_≡_, refl}
 use native.Mathlib.Numerals.{add-one}
@@ -17,15 +17,12 @@ loop-holds : tie.Need-loop-holds Inv-loop μ-loop
 unfolding nearTo indexTo rowsTo
 loop-holds c = (search needs, refl, refl, refl)
 
-mul-put-constraint : tie.Need-mul-put-constraint Inv-loop μ-loop
-mul-put-constraint c = search needs
-
-add-put-constraint : tie.Need-add-put-constraint Inv-loop μ-loop
-add-put-constraint c = search needs
-
 put-constraint-requires : tie.Need-put-constraint-requires Inv-loop μ-loop
 put-constraint-requires c κs =
-    let h = c .before .before .before .before .before .before .pre .2 (c .before .before .before .before .loop .t) (omega arith) in (omega arith, omega arith, h .0, h .1)
+    let h = c .before .before .before .before .before .before .pre in
+    let t = c .before .before .before .before .loop .t in
+    let l : t < c .before .before .before .before .before .before .args .m = omega arith in
+    let o = h .order t l in (h .whole t l, omega (arith, h .few), omega arith, o .1)
 
 add-t : tie.Need-add-t Inv-loop μ-loop
 add-t c = search needs
@@ -47,8 +44,6 @@ put-constraints-spec =
     Inv-loop
     μ-loop
     loop-holds
-    mul-put-constraint
-    add-put-constraint
     put-constraint-requires
     add-t
     loop-less

@@ -1,4 +1,4 @@
-use Prim.Native.Nat.{ℕ, _+_, _-_, _*_, _^_, _≤_}
+use Prim.Native.Nat.{ℕ, _+_, _-_, _^_, _≤_}
 use borrow.Author.Needs.{needs}
 use mathlib.Core.Path.{_≡_, refl}
 use mathlib.Core.Bool.{Bool, cond}
@@ -6,39 +6,30 @@ use mathlib.Core.List.{List}
 use lib.Bits.{bitOr}
 use native.Mathlib.Numerals.{add-one}
 use native.Mathlib.Omega.{arith}
-use Rattle.file_layout.specs.Layout.{word, rowAt}
+use Rattle.file_constraints.specs.Constraints.{constraintRow}
 use Rattle.mask.specs.Mask.{bit, maskOf}
-use Rattle.tables.specs.Tables.{columnAt}
+use Rattle.tables.specs.Tables.{columnOf}
 use Rattle.tables.proofs.rows.column.Statement.{statement}
 use Rattle.tables.proofs.rows.column.Tie as tie
 
 abbrev Inv-loop : tie.InvT-loop
-Inv-loop f p b out₀ a₀ out a = (a ≤ 16) × (out ≡ maskOf a (λ x. bit (rowAt f p x) b))
+Inv-loop f q t b out₀ a₀ out a = (a ≤ 16) × (out ≡ maskOf a (λ x. bit (constraintRow f q t x) b))
 
 abbrev μ-loop : tie.MeasureT-loop
-μ-loop f p b out₀ a₀ out a = 16 - a
+μ-loop f q t b out₀ a₀ out a = 16 - a
 
 -- One turn: row a says whether a is in the column.
-turn : (f : List ℕ) (p b a out row next : ℕ) (s : Bool) → out ≡ maskOf a (λ x. bit (rowAt f p x) b) →
-    row ≡ word f (p + 4 + 2 * a) → s ≡ bit row b → next ≡ cond s (bitOr out (2 ^ a)) out → next ≡ maskOf (a + 1) (λ x. bit (rowAt f p x) b)
-unfolding maskOf rowAt
-turn f p b a out row next s e r h n = rw (add-one, n, h, r, e)
+turn : (f : List ℕ) (q t b a out row next : ℕ) (s : Bool) → out ≡ maskOf a (λ x. bit (constraintRow f q t x) b) →
+    row ≡ constraintRow f q t a → s ≡ bit row b → next ≡ cond s (bitOr out (2 ^ a)) out → next ≡ maskOf (a + 1) (λ x. bit (constraintRow f q t x) b)
+unfolding maskOf
+turn f q t b a out row next s e r h n = rw (add-one, n, h, r, e)
 
 loop-holds : tie.Need-loop-holds Inv-loop μ-loop
-unfolding maskOf rowAt
+unfolding maskOf
 loop-holds c = (search needs, refl)
 
-add-word-at : tie.Need-add-word-at Inv-loop μ-loop
-add-word-at c = search needs
-
-mul-word-at : tie.Need-mul-word-at Inv-loop μ-loop
-mul-word-at c = search needs
-
-add-word-at-2 : tie.Need-add-word-at-2 Inv-loop μ-loop
-add-word-at-2 c = search needs
-
-word-at-requires : tie.Need-word-at-requires Inv-loop μ-loop
-word-at-requires c κs = search needs
+constraint-row-requires : tie.Need-constraint-row-requires Inv-loop μ-loop
+constraint-row-requires c κs = search needs
 
 contains-requires : tie.Need-contains-requires Inv-loop μ-loop
 contains-requires c κs = search needs
@@ -55,11 +46,11 @@ loop-less c = search needs
 loop-again : tie.Need-loop-again Inv-loop μ-loop
 loop-again c = (
   search needs,
-  turn _ _ _ _ _ _ _ _ (c .before .before .before .before .loop .inv .1) (c .before .before .word-at .ensures) (c .before .contains .ensures) (c .with-value .ensures),
+  turn _ _ _ _ _ _ _ _ _ (c .before .before .before .before .loop .inv .1) (c .before .before .constraint-row .ensures) (c .before .contains .ensures) (c .with-value .ensures),
 )
 
 returns : tie.Need-returns Inv-loop μ-loop
-unfolding columnAt
+unfolding columnOf
 returns c = let e : c .before .loop .a ≡ 16 = omega arith in cc
 
 pub column-spec : {M : Type 1} → statement M
@@ -69,10 +60,7 @@ column-spec =
     Inv-loop
     μ-loop
     loop-holds
-    add-word-at
-    mul-word-at
-    add-word-at-2
-    word-at-requires
+    constraint-row-requires
     contains-requires
     with-value-requires
     add-a

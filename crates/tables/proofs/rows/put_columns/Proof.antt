@@ -3,15 +3,15 @@ use borrow.Author.Needs.{needs}
 use mathlib.Core.Path.{_≡_, refl, ap, _∙_}
 use native.Mathlib.Numerals.{add-one}
 use native.Mathlib.Omega.{arith}
-use Rattle.tables.specs.Tables.{columnAt, putTo}
+use Rattle.tables.specs.Tables.{columnOf, putTo}
 use Rattle.tables.proofs.rows.put_columns.Statement.{statement}
 use Rattle.tables.proofs.rows.put_columns.Tie as tie
 
 abbrev Inv-loop : tie.InvT-loop
-Inv-loop f p rows₀ base b₀ rows b = (b ≤ 16) × (rows ≡ putTo rows₀ base (columnAt f p) b)
+Inv-loop f q t rows₀ base b₀ rows b = (b ≤ 16) × (rows ≡ putTo rows₀ base (columnOf f q t) b)
 
 abbrev μ-loop : tie.MeasureT-loop
-μ-loop f p rows₀ base b₀ rows b = 16 - b
+μ-loop f q t rows₀ base b₀ rows b = 16 - b
 
 loop-holds : tie.Need-loop-holds Inv-loop μ-loop
 unfolding putTo

@@ -3,32 +3,23 @@ use borrow.Author.Needs.{needs}
 use mathlib.Core.Path.{_≡_, refl, ap, _∙_}
 use native.Mathlib.Numerals.{add-one}
 use native.Mathlib.Omega.{arith}
-use Rattle.file_layout.specs.Layout.{rowAt}
+use Rattle.file_constraints.specs.Constraints.{constraintRow}
 use Rattle.tables.specs.Tables.{putTo}
 use Rattle.tables.proofs.rows.put_rows.Statement.{statement}
 use Rattle.tables.proofs.rows.put_rows.Tie as tie
 
 abbrev Inv-loop : tie.InvT-loop
-Inv-loop f p rows₀ base a₀ rows a = (a ≤ 16) × (rows ≡ putTo rows₀ base (rowAt f p) a)
+Inv-loop f q t rows₀ base a₀ rows a = (a ≤ 16) × (rows ≡ putTo rows₀ base (constraintRow f q t) a)
 
 abbrev μ-loop : tie.MeasureT-loop
-μ-loop f p rows₀ base a₀ rows a = 16 - a
+μ-loop f q t rows₀ base a₀ rows a = 16 - a
 
 loop-holds : tie.Need-loop-holds Inv-loop μ-loop
-unfolding putTo rowAt
+unfolding putTo
 loop-holds c = (search needs, refl)
 
-add-word-at : tie.Need-add-word-at Inv-loop μ-loop
-add-word-at c = search needs
-
-mul-word-at : tie.Need-mul-word-at Inv-loop μ-loop
-mul-word-at c = search needs
-
-add-word-at-2 : tie.Need-add-word-at-2 Inv-loop μ-loop
-add-word-at-2 c = search needs
-
-word-at-requires : tie.Need-word-at-requires Inv-loop μ-loop
-word-at-requires c κs = search needs
+constraint-row-requires : tie.Need-constraint-row-requires Inv-loop μ-loop
+constraint-row-requires c κs = search needs
 
 add-rows : tie.Need-add-rows Inv-loop μ-loop
 add-rows c = search needs
@@ -46,7 +37,7 @@ loop-less : tie.Need-loop-less Inv-loop μ-loop
 loop-less c = search needs
 
 loop-again : tie.Need-loop-again Inv-loop μ-loop
-unfolding putTo rowAt
+unfolding putTo
 loop-again c = (search needs, rw add-one (cc))
 
 returns : tie.Need-returns Inv-loop μ-loop
@@ -59,10 +50,7 @@ put-rows-spec =
     Inv-loop
     μ-loop
     loop-holds
-    add-word-at
-    mul-word-at
-    add-word-at-2
-    word-at-requires
+    constraint-row-requires
     add-rows
     mul-rows
     element-write-rows
