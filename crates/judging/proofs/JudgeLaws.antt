@@ -19,8 +19,7 @@ use Rattle.game.specs.Search.{is-solved, solved, failed}
 use Rattle.theory.proofs.Theorems.{search-answers}
 use Rattle.tables.specs.FileProblem.{problemOf}
 use Rattle.tables.specs.Decoded.{Decodes}
-use Rattle.rules.specs.Alone.{Bytes}
-use Rattle.rules.proofs.ReadLaws.{read-fine, holds-of, fits-of}
+use Rattle.rules.proofs.ReadLaws.{read-fine, read-domains, holds-of, fits-of}
 use Rattle.rules.proofs.ReplyLaws.{list-refused, list-left}
 use Rattle.arrays.specs.Arrays.{InRange}
 use Rattle.position.specs.declared.Position.{Position}
@@ -85,22 +84,21 @@ module _ (n universal : ℕ) (near index rows masks : List ℕ) (p : Position) (
 -- What decoding leaves states the file's problem over the reading's domains.
 module _ (f near₀ index₀ rows₀ near index rows D : List ℕ) (n m : ℕ) (rules : Rules) (u : ℕ) (s : Shows f n m rules u)
     (d : Decodes f near₀ index₀ rows₀ near index rows) (e : D ≡ domainsOf f) where
-  pub poses-of : (bytes : Bytes f) → Poses (problemOf f bytes (s .fine)) n u near index rows D
-  unfolding problemOf
-  poses-of bytes = record {
-    states = holds-of f near₀ index₀ rows₀ near index rows D bytes n m rules u s d e .states;
-    domain = ap (λ (k : ℕ). take k (domainsOf f)) (sym (s .variables)) ∙ ap (take n) (sym e);
+  pub poses-of : Poses (problemOf f (s .fine)) n u near index rows D
+  poses-of = record {
+    states = holds-of f near₀ index₀ rows₀ near index rows D n m rules u s d e .states;
+    domain = read-domains f D n m rules u s e (d .domains (s .fine));
   }
 
-  pub ready-of : Bytes f → (n ≤ 32) × InRange index × Posed n u near index rows D
-  ready-of bytes =
+  pub ready-of : (n ≤ 32) × InRange index × Posed n u near index rows D
+  ready-of =
       let q = fits-of f near₀ index₀ rows₀ near index rows n m rules u s d in
-      (q .0, q .1, record { problem = problemOf f bytes (s .fine); poses = poses-of bytes })
+      (q .0, q .1, record { problem = problemOf f (s .fine); poses = poses-of })
 
   -- So the arrays' reply is the file's.
   pub judged-file : (p : Position) (set : ℕ) (w w' : List ℕ) (r : Judged) → Judges n u near index rows D p set w w' r
-      → (bytes : Bytes f) → (told r ≡ judgeTold f bytes p set (length w)) × (w' ≡ judgeLeft f bytes p set w)
+      → (told r ≡ judgeTold f p set (length w)) × (w' ≡ judgeLeft f p set w)
   unfolding judgeTold judgeLeft
-  judged-file p set w w' r j bytes =
-      let q = j (problemOf f bytes (s .fine)) (poses-of bytes) in
-      (q .0 ∙ sym (read-fine f bytes _ _ (s .fine)), q .1 ∙ sym (read-fine f bytes _ _ (s .fine)))
+  judged-file p set w w' r j =
+      let q = j (problemOf f (s .fine)) poses-of in
+      (q .0 ∙ sym (read-fine f _ _ (s .fine)), q .1 ∙ sym (read-fine f _ _ (s .fine)))

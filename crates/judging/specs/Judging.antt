@@ -9,7 +9,7 @@ use Rattle.refusal.specs.declared.Verdict.the-variants.{Refused as Not}
 use Rattle.refusal.specs.Told.{Told, replied, refused, refusedAt}
 use Rattle.game.specs.Problem.{Problem}
 use Rattle.game.specs.Winning.{verdict}
-use Rattle.rules.specs.Alone.{Bytes, readFirst, listFor}
+use Rattle.rules.specs.Alone.{readFirst, listFor}
 use Rattle.position.specs.declared.Position.{Position}
 use Rattle.position.specs.Position.{playsOf}
 use Rattle.turn_words.specs.TurnRoom.{zeroed}
@@ -42,9 +42,9 @@ module _ (P : Problem) (p : Position) (set : ℕ) where
   judgeRoom room = listFor (judgeTest n domain p set (length room)) (zeroed 0 (roomNeeded n) room) room
 
 -- Over a file f.
-module _ (f : List ℕ) (bytes : Bytes f) (p : Position) (set : ℕ) where
+module _ (f : List ℕ) (p : Position) (set : ℕ) where
   unfoldable pub judgeTold : ℕ → Told
-  judgeTold words = readFirst f bytes refusedAt (λ P. judgeReply P p set words)
+  judgeTold words = readFirst f refusedAt (λ P. judgeReply P p set words)
 
   unfoldable pub judgeLeft : List ℕ → List ℕ
-  judgeLeft room = readFirst f bytes (λ e q. room) (λ P. judgeRoom P p set room)
+  judgeLeft room = readFirst f (λ e q. room) (λ P. judgeRoom P p set room)

@@ -3,7 +3,6 @@ ghost use mathlib.Core.Path.{_≡_};
 ghost use Prim.Native.Nat.{_≤_};
 ghost use lib.ListN.{length};
 ghost use Rattle.arrays.specs.Arrays.{InRange};
-ghost use Rattle.rules.specs.Alone.{Bytes};
 ghost use Rattle.search_run.specs.Run.{Posed};
 ghost use Rattle.judging.specs.Judging.{told, judgeTold, judgeLeft};
 ghost use Rattle.judging.specs.Inner.{Judges};
@@ -58,8 +57,8 @@ fn judge_in(
 // Whether the position is won, by a search under the rule set of this number. A finished call leaves the words of the room
 // that the search needs zero and the others as they were; a refused one leaves all.
 pub fn judge(f: &[u8], p: Position, set: usize, room: &mut [u16]) -> Judged
-    ensures { λ r. ⌜ ((bytes : Bytes (now (f .entry))) → told r ≡ judgeTold (now (f .entry)) bytes p set (length (now (room .entry)))) ⌝ }
-    ensures { λ r. ⌜ ((bytes : Bytes (now (f .entry))) → now (room .exit) ≡ judgeLeft (now (f .entry)) bytes p set (now (room .entry))) ⌝ }
+    ensures { λ r. ⌜ told r ≡ judgeTold (now (f .entry)) p set (length (now (room .entry))) ⌝ }
+    ensures { λ r. ⌜ now (room .exit) ≡ judgeLeft (now (f .entry)) p set (now (room .entry)) ⌝ }
 {
     let mut near = [0u32; 32];
     let mut index = [0u16; 1024];

@@ -9,7 +9,7 @@ use Rattle.refusal.specs.Told.{Told, replied, refused, refusedAt}
 use Rattle.refusal.specs.Chain.{_then_, need}
 use Rattle.game.specs.Problem.{Problem}
 use Rattle.game.specs.Winning.{winningValues}
-use Rattle.rules.specs.Alone.{Bytes, readFirst, listFor}
+use Rattle.rules.specs.Alone.{readFirst, listFor}
 use Rattle.position.specs.declared.Position.{Position}
 use Rattle.position.specs.Position.{playsOf}
 use Rattle.turn_words.specs.TurnRoom.{zeroed}
@@ -40,12 +40,12 @@ module _ (P : Problem) (p : Position) (set : ℕ) where
   markRoom room = listFor (markTest n domain p set (length room)) (zeroed 0 (roomNeeded n) room) room
 
 -- Over a file f.
-module _ (f : List ℕ) (bytes : Bytes f) (p : Position) (set : ℕ) where
+module _ (f : List ℕ) (p : Position) (set : ℕ) where
   unfoldable pub markTold : ℕ → Told
-  markTold words = readFirst f bytes refusedAt (λ P. markReply P p set words)
+  markTold words = readFirst f refusedAt (λ P. markReply P p set words)
 
   unfoldable pub markLeft : List ℕ → List ℕ
-  markLeft room = readFirst f bytes (λ e q. room) (λ P. markRoom P p set room)
+  markLeft room = readFirst f (λ e q. room) (λ P. markRoom P p set room)
 
 -- Over the arrays of a problem: the reply r, and the room from w to w'.
 abbrev pub MarksIn : (n universal : ℕ) (near index rows masks : List ℕ) (p : Position) (set : ℕ) (w w' : List ℕ) (r : Marked) → Type 0

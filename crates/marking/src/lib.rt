@@ -3,7 +3,6 @@ ghost use mathlib.Core.Path.{_≡_};
 ghost use Prim.Native.Nat.{_≤_};
 ghost use lib.ListN.{length};
 ghost use Rattle.arrays.specs.Arrays.{InRange};
-ghost use Rattle.rules.specs.Alone.{Bytes};
 ghost use Rattle.search_run.specs.Run.{Posed};
 ghost use Rattle.marking.specs.Marking.{told, markTest, markTold, markLeft, MarksIn};
 
@@ -65,8 +64,8 @@ fn mark_in(
 
 // The marks of the position's next variable, by searches under the rule set of this number. The room is left as by judging.
 pub fn mark(f: &[u8], p: Position, set: usize, room: &mut [u16]) -> Marked
-    ensures { λ r. ⌜ ((bytes : Bytes (now (f .entry))) → told r ≡ markTold (now (f .entry)) bytes p set (length (now (room .entry)))) ⌝ }
-    ensures { λ r. ⌜ ((bytes : Bytes (now (f .entry))) → now (room .exit) ≡ markLeft (now (f .entry)) bytes p set (now (room .entry))) ⌝ }
+    ensures { λ r. ⌜ told r ≡ markTold (now (f .entry)) p set (length (now (room .entry))) ⌝ }
+    ensures { λ r. ⌜ now (room .exit) ≡ markLeft (now (f .entry)) p set (now (room .entry)) ⌝ }
 {
     let mut near = [0u32; 32];
     let mut index = [0u16; 1024];

@@ -1,9 +1,8 @@
 -- What each of the five calls tells, and what it leaves in the list: by the file's verdict first, then by the tests, then by the rule.
-use Prim.Native.Nat.{ℕ, _<_}
+use Prim.Native.Nat.{ℕ}
 use mathlib.Core.Path.{_≡_, refl}
 use mathlib.Core.Bool.{Bool, cond}
 use mathlib.Core.List.{List, [], _∷_}
-use lib.ListN.{getD}
 use Rattle.refusal.specs.declared.Verdict.{Verdict}
 use Rattle.refusal.specs.declared.Verdict.the-variants.{Fine}
 use Rattle.refusal.specs.declared.Verdict.the-variants.{Refused as Not}
@@ -24,10 +23,6 @@ use Rattle.rules.specs.declared.Values.the-variants.{Mask}
 use Rattle.rules.specs.declared.Values.the-variants.{Refused as NoValues, RefusedAt as NoValuesAt}
 use Rattle.rules.specs.Lend.{listTest, variableTest, valueTest}
 
--- The elements of f are bytes, as those of every slice of bytes.
-abbrev pub Bytes : List ℕ → Type 0
-Bytes f = (k : ℕ) → getD f k 0 < 256
-
 -- Each case of the answers in document 01's numbers: 0 for no loss, 1 for a loss; a mask.
 unfoldable pub told : Ruled → Told
 told Stands = replied (0 ∷ [])
@@ -41,12 +36,12 @@ toldValues (NoValues e) = refused e
 toldValues (NoValuesAt e p) = refusedAt e p
 
 -- "Every call with a file reads it first": an accepted file goes on to its problem, a refused one hands on number and place.
-unfoldable pub readAs : {A : Type 0} (f : List ℕ) → Bytes f → (ℕ → ℕ → A) → (Problem → A) → (v : Verdict) → verdictOf f ≡ v → A
-readAs f bytes refusal reply Fine fine = reply (problemOf f bytes fine)
-readAs f bytes refusal reply (Not e p) fails = refusal e p
+unfoldable pub readAs : {A : Type 0} (f : List ℕ) → (ℕ → ℕ → A) → (Problem → A) → (v : Verdict) → verdictOf f ≡ v → A
+readAs f refusal reply Fine fine = reply (problemOf f fine)
+readAs f refusal reply (Not e p) fails = refusal e p
 
-unfoldable pub readFirst : {A : Type 0} (f : List ℕ) → Bytes f → (ℕ → ℕ → A) → (Problem → A) → A
-readFirst f bytes refusal reply = readAs f bytes refusal reply (verdictOf f) refl
+unfoldable pub readFirst : {A : Type 0} (f : List ℕ) → (ℕ → ℕ → A) → (Problem → A) → A
+readFirst f refusal reply = readAs f refusal reply (verdictOf f) refl
 
 -- What is told of a loss or not, and of a mask, and what the list holds, by the tests: "its other refusals are a number alone";
 -- "A refused call leaves position, list, room and buffer with their old contents".
@@ -88,24 +83,24 @@ module _ (P : Problem) (l : List ℕ) where
   interchangeableReply x = maskFor (variableTest (mayLend P l) n x) (interchangeable P x l)
 
 -- What each call tells of a file f and a list l, and the list that rules 1 and 2 leave.
-module _ (f : List ℕ) (bytes : Bytes f) (l : List ℕ) where
+module _ (f l : List ℕ) where
   unfoldable pub arcTold : Told
-  arcTold = readFirst f bytes refusedAt (λ P. arcReply P l)
+  arcTold = readFirst f refusedAt (λ P. arcReply P l)
 
   unfoldable pub arcLeft : List ℕ
-  arcLeft = readFirst f bytes (λ e p. l) (λ P. arcList P l)
+  arcLeft = readFirst f (λ e p. l) (λ P. arcList P l)
 
   unfoldable pub forwardTold : ℕ → ℕ → Told
-  forwardTold x a = readFirst f bytes refusedAt (λ P. forwardReply P l x a)
+  forwardTold x a = readFirst f refusedAt (λ P. forwardReply P l x a)
 
   unfoldable pub forwardLeft : ℕ → ℕ → List ℕ
-  forwardLeft x a = readFirst f bytes (λ e p. l) (λ P. forwardList P l x a)
+  forwardLeft x a = readFirst f (λ e p. l) (λ P. forwardList P l x a)
 
   unfoldable pub aheadTold : ℕ → Told
-  aheadTold x = readFirst f bytes refusedAt (λ P. aheadReply P l x)
+  aheadTold x = readFirst f refusedAt (λ P. aheadReply P l x)
 
   unfoldable pub pureTold : ℕ → Told
-  pureTold x = readFirst f bytes refusedAt (λ P. pureReply P l x)
+  pureTold x = readFirst f refusedAt (λ P. pureReply P l x)
 
   unfoldable pub interchangeableTold : ℕ → Told
-  interchangeableTold x = readFirst f bytes refusedAt (λ P. interchangeableReply P l x)
+  interchangeableTold x = readFirst f refusedAt (λ P. interchangeableReply P l x)

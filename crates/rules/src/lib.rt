@@ -1,7 +1,7 @@
 // Rules 1 to 5 alone, on a lent list of n masks: each call reads the file first, then tests what it is lent. `arc`,
 // `forward_check`, `look_ahead`, `pure` and `interchangeable` are open to callers.
 ghost use mathlib.Core.Path.{_≡_};
-ghost use Rattle.rules.specs.Alone.{Bytes, told, toldValues, arcTold, arcLeft, forwardTold, forwardLeft, aheadTold, pureTold, interchangeableTold};
+ghost use Rattle.rules.specs.Alone.{told, toldValues, arcTold, arcLeft, forwardTold, forwardLeft, aheadTold, pureTold, interchangeableTold};
 
 mod arc_alone;
 mod forward_alone;
@@ -33,8 +33,8 @@ pub enum Values {
 
 // Rule 1. The list is left without dead values, also in a loss.
 pub fn arc(f: &[u8], list: &mut [u16]) -> Ruled
-    ensures { λ r. ⌜ ((bytes : Bytes (now (f .entry))) → told r ≡ arcTold (now (f .entry)) bytes (now (list .entry))) ⌝ }
-    ensures { λ r. ⌜ ((bytes : Bytes (now (f .entry))) → now (list .exit) ≡ arcLeft (now (f .entry)) bytes (now (list .entry))) ⌝ }
+    ensures { λ r. ⌜ told r ≡ arcTold (now (f .entry)) (now (list .entry)) ⌝ }
+    ensures { λ r. ⌜ now (list .exit) ≡ arcLeft (now (f .entry)) (now (list .entry)) ⌝ }
 {
     let mut near = [0u32; 32];
     let mut index = [0u16; 1024];
@@ -50,8 +50,8 @@ pub fn arc(f: &[u8], list: &mut [u16]) -> Ruled
 
 // Rule 2, for value a of variable x. The list is left as checked, also in a loss.
 pub fn forward_check(f: &[u8], list: &mut [u16], x: usize, a: usize) -> Ruled
-    ensures { λ r. ⌜ ((bytes : Bytes (now (f .entry))) → told r ≡ forwardTold (now (f .entry)) bytes (now (list .entry)) x a) ⌝ }
-    ensures { λ r. ⌜ ((bytes : Bytes (now (f .entry))) → now (list .exit) ≡ forwardLeft (now (f .entry)) bytes (now (list .entry)) x a) ⌝ }
+    ensures { λ r. ⌜ told r ≡ forwardTold (now (f .entry)) (now (list .entry)) x a ⌝ }
+    ensures { λ r. ⌜ now (list .exit) ≡ forwardLeft (now (f .entry)) (now (list .entry)) x a ⌝ }
 {
     let mut near = [0u32; 32];
     let mut index = [0u16; 1024];
@@ -69,7 +69,7 @@ pub fn forward_check(f: &[u8], list: &mut [u16], x: usize, a: usize) -> Ruled
 
 // Rule 3, at variable x.
 pub fn look_ahead(f: &[u8], list: &[u16], x: usize) -> Ruled
-    ensures { λ r. ⌜ ((bytes : Bytes (now (f .entry))) → told r ≡ aheadTold (now (f .entry)) bytes (now (list .entry)) x) ⌝ }
+    ensures { λ r. ⌜ told r ≡ aheadTold (now (f .entry)) (now (list .entry)) x ⌝ }
 {
     let mut near = [0u32; 32];
     let mut index = [0u16; 1024];
@@ -85,7 +85,7 @@ pub fn look_ahead(f: &[u8], list: &[u16], x: usize) -> Ruled
 
 // Rule 4: the pure values of variable x.
 pub fn pure(f: &[u8], list: &[u16], x: usize) -> Values
-    ensures { λ r. ⌜ ((bytes : Bytes (now (f .entry))) → toldValues r ≡ pureTold (now (f .entry)) bytes (now (list .entry)) x) ⌝ }
+    ensures { λ r. ⌜ toldValues r ≡ pureTold (now (f .entry)) (now (list .entry)) x ⌝ }
 {
     let mut near = [0u32; 32];
     let mut index = [0u16; 1024];
@@ -101,7 +101,7 @@ pub fn pure(f: &[u8], list: &[u16], x: usize) -> Values
 
 // Rule 5: the smallest of each group of interchangeable values of variable x.
 pub fn interchangeable(f: &[u8], list: &[u16], x: usize) -> Values
-    ensures { λ r. ⌜ ((bytes : Bytes (now (f .entry))) → toldValues r ≡ interchangeableTold (now (f .entry)) bytes (now (list .entry)) x) ⌝ }
+    ensures { λ r. ⌜ toldValues r ≡ interchangeableTold (now (f .entry)) (now (list .entry)) x ⌝ }
 {
     let mut near = [0u32; 32];
     let mut index = [0u16; 1024];

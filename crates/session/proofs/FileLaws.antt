@@ -1,19 +1,19 @@
 -- What a file's verdict makes of a call.
-use mathlib.Core.Path.{_≡_, refl, sym, ap, ap₂, _∙_}
+use mathlib.Core.Path.{_≡_, sym, ap, _∙_}
 use mathlib.Core.List.{List}
-use Prim.Native.Nat.{ℕ, _≤_}
+use Prim.Native.Nat.{ℕ, _≤_, _<_}
 use native.Mathlib.Omega.{arith}
-use Rattle.refusal.specs.declared.Verdict.{Verdict}
+use lib.ListN.{getD}
+use lib.Seq.{getD-take}
 use Rattle.refusal.specs.declared.Verdict.the-variants.{Fine, Refused as Not}
-use Rattle.refusal.specs.Told.{refusedAt}
 use Rattle.file_layout.specs.declared.Rules.{Rules}
-use Rattle.file_layout.specs.Layout.{nOf}
 use Rattle.file_records.specs.Records.{verdictOf}
 use Rattle.problem_file.specs.Reading.{domainsOf}
 use Rattle.problem_file.proofs.Accepted.{Shows, accepted}
-use Rattle.tables.specs.FileProblem.{problemOf, domain-of}
-use Rattle.rules.specs.Alone.{Bytes, readFirst}
-use Rattle.rules.proofs.ReadLaws.{read-refused, read-fine}
+use Rattle.game.specs.Problem.{Problem}
+use Rattle.tables.specs.FileProblem.{problemOf}
+use Rattle.tables.proofs.FileLaws.{problem-size, problem-domains}
+use Rattle.rules.proofs.ReadLaws.{read-refused, read-fine, read-domains}
 use Rattle.position.specs.declared.Position.{Position}
 use Rattle.session.specs.declared.Played.{Played}
 use Rattle.session.specs.declared.Opened.{Opened}
@@ -21,97 +21,56 @@ use Rattle.session.specs.declared.Answer.the-variants.{RefusedAt}
 use Rattle.session.specs.Plays.{playIn, takeBackIn}
 use Rattle.session.specs.Files.{fileFirst, playFile, takeBackFile}
 use Rattle.session.specs.Opening.{openIn}
-use Rattle.session.specs.Told.{toldWith, told, toldOpened, playTold, playLeft, takeBackTold, takeBackLeft, openTold, masksShown, countsShown}
+use Rattle.session.specs.Told.{toldOpened, openTold, masksShown, countsShown}
 use Rattle.session.proofs.PlayLaws.{DomainsOf, play-same, take-back-same}
-
--- The reading of an accepted file is that of its problem.
-pub read-domains : (f : List ℕ) (bytes : Bytes f) (fine : verdictOf f ≡ Fine) → DomainsOf (problemOf f bytes fine) (nOf f) (domainsOf f)
-unfolding problemOf
-read-domains f bytes fine = record { size = refl; domain = λ i h. domain-of f bytes fine i h }
 
 pub read-most : (f : List ℕ) (n m : ℕ) (rules : Rules) (u : ℕ) → Shows f n m rules u → n ≤ 32
 read-most f n m rules u s = omega (arith, s .variables, accepted f (s .fine) .head .counts .most)
 
--- A call over a refused file, and over the header and the domains of an accepted one.
-module _ (f : List ℕ) (p : Position) (call : ℕ → List ℕ → Played) where
-  pub file-refused : (e k : ℕ) → verdictOf f ≡ Not e k → record { answer = RefusedAt e k; position = p } ≡ fileFirst (verdictOf f) f p call
-  unfolding fileFirst
-  file-refused e k q = rw q
+-- A call over a refused file.
+pub file-refused : (f : List ℕ) (p : Position) (call : Problem → Played) (e k : ℕ) → verdictOf f ≡ Not e k → record { answer = RefusedAt e k; position = p } ≡ fileFirst f p call
+unfolding fileFirst
+file-refused f p call e k q = sym (read-refused f _ call e k q)
 
-  file-fine : verdictOf f ≡ Fine → call (nOf f) (domainsOf f) ≡ fileFirst (verdictOf f) f p call
-  unfolding fileFirst
-  file-fine q = rw q
-
-  pub file-accepted : (D : List ℕ) (n m : ℕ) (rules : Rules) (u : ℕ) (r : Played) → Shows f n m rules u → D ≡ domainsOf f → r ≡ call n D → r ≡ fileFirst (verdictOf f) f p call
-  file-accepted D n m rules u r s d e = e ∙ ap₂ call (s .variables) d ∙ file-fine (s .fine)
-
-  -- What it answers is what is told of the file, where the call over the file's domains is that over the problem's.
-  module _ (bytes : Bytes f) (same : (fine : verdictOf f ≡ Fine) → call (nOf f) (domainsOf f) ≡ call (problemOf f bytes fine .n) (problemOf f bytes fine .domain)) where
-    file-told : (v : Verdict) → verdictOf f ≡ v → told (fileFirst (verdictOf f) f p call .answer) ≡ readFirst f bytes refusedAt (λ P. told (call (P .n) (P .domain) .answer))
-    unfolding toldWith told
-    file-told Fine q = ap (λ (x : Played). told (x .answer)) (sym (file-fine q) ∙ same q) ∙ sym (read-fine f bytes refusedAt (λ P. told (call (P .n) (P .domain) .answer)) q)
-    file-told (Not e k) q =
-        ap (λ (x : Played). told (x .answer)) (sym (file-refused e k q)) ∙ sym (read-refused f bytes refusedAt (λ P. told (call (P .n) (P .domain) .answer)) e k q)
-
-    file-left : (v : Verdict) → verdictOf f ≡ v → fileFirst (verdictOf f) f p call .position ≡ readFirst f bytes (λ e k. p) (λ P. call (P .n) (P .domain) .position)
-    file-left Fine q = ap (λ (x : Played). x .position) (sym (file-fine q) ∙ same q) ∙ sym (read-fine f bytes (λ e k. p) (λ P. call (P .n) (P .domain) .position) q)
-    file-left (Not e k) q =
-        ap (λ (x : Played). x .position) (sym (file-refused e k q)) ∙ sym (read-refused f bytes (λ e k. p) (λ P. call (P .n) (P .domain) .position) e k q)
-
-module _ (f : List ℕ) (bytes : Bytes f) (p : Position) where
-  -- Each call goes on to the problem of an accepted file.
+module _ (f : List ℕ) (p : Position) where
+  -- Over an accepted one a call is that in its problem.
   module _ (fine : verdictOf f ≡ Fine) where
-    pub play-told : (a : ℕ) → playTold f bytes p a ≡ told (playIn (problemOf f bytes fine .n) (problemOf f bytes fine .domain) p a .answer)
-    unfolding playTold
-    play-told a = read-fine f bytes _ _ fine
+    pub play-file : (a : ℕ) → playFile f p a ≡ playIn (problemOf f fine .n) (problemOf f fine .domain) p a
+    unfolding playFile fileFirst
+    play-file a = read-fine f _ _ fine
 
-    pub play-left : (a : ℕ) → playLeft f bytes p a ≡ playIn (problemOf f bytes fine .n) (problemOf f bytes fine .domain) p a .position
-    unfolding playLeft
-    play-left a = read-fine f bytes _ _ fine
+    pub take-back-file : takeBackFile f p ≡ takeBackIn (problemOf f fine .n) (problemOf f fine .domain) p
+    unfolding takeBackFile fileFirst
+    take-back-file = read-fine f _ _ fine
 
-    pub take-back-told : takeBackTold f bytes p ≡ told (takeBackIn (problemOf f bytes fine .n) (problemOf f bytes fine .domain) p .answer)
-    unfolding takeBackTold
-    take-back-told = read-fine f bytes _ _ fine
-
-    pub take-back-left : takeBackLeft f bytes p ≡ takeBackIn (problemOf f bytes fine .n) (problemOf f bytes fine .domain) p .position
-    unfolding takeBackLeft
-    take-back-left = read-fine f bytes _ _ fine
-
-    pub open-told : openTold f bytes p ≡ toldOpened (openIn (problemOf f bytes fine) p)
+    pub open-told : openTold f p ≡ toldOpened (openIn (problemOf f fine) p)
     unfolding openTold
-    open-told = read-fine f bytes _ _ fine
+    open-told = read-fine f _ _ fine
 
-    pub masks-shown : masksShown f bytes p ≡ openIn (problemOf f bytes fine) p .masks
+    pub masks-shown : masksShown f p ≡ openIn (problemOf f fine) p .masks
     unfolding masksShown
-    masks-shown = read-fine f bytes _ _ fine
+    masks-shown = read-fine f _ _ fine
 
-    pub counts-shown : countsShown f bytes p ≡ openIn (problemOf f bytes fine) p .counts
+    pub counts-shown : countsShown f p ≡ openIn (problemOf f fine) p .counts
     unfolding countsShown
-    counts-shown = read-fine f bytes _ _ fine
+    counts-shown = read-fine f _ _ fine
 
-  -- A play and a take-back over a file answer what they tell of it.
-  pub play-file : (a : ℕ) (r : Played) → r ≡ playFile f p a → (told (r .answer) ≡ playTold f bytes p a) × (r .position ≡ playLeft f bytes p a)
-  unfolding playFile playTold playLeft
-  play-file a r e =
-      let call : ℕ → List ℕ → Played = λ n masks. playIn n masks p a in
-      let same : (fine : verdictOf f ≡ Fine) → call (nOf f) (domainsOf f) ≡ call (problemOf f bytes fine .n) (problemOf f bytes fine .domain)
-      = λ fine. play-same _ (nOf f) (domainsOf f) (read-domains f bytes fine) p a in (
-        ap (λ (x : Played). told (x .answer)) e ∙ file-told f p call bytes same (verdictOf f) refl,
-        ap (λ (x : Played). x .position) e ∙ file-left f p call bytes same (verdictOf f) refl,
-      )
+  -- The reading of a file of bytes shows the domains of its problem, so a call over these is the one over the file.
+  module _ (D : List ℕ) (n m : ℕ) (rules : Rules) (u : ℕ) (bytes : (k : ℕ) → getD f k 0 < 256) (s : Shows f n m rules u) (d : D ≡ domainsOf f) where
+    domains-of : DomainsOf (problemOf f (s .fine)) n D
+    domains-of = record {
+      size = problem-size f (s .fine) ∙ sym (s .variables);
+      domain = λ i h. ap (λ (l : List ℕ). getD l i 0) (read-domains f D n m rules u s d (problem-domains f (s .fine) bytes)) ∙ getD-take n D i 0 h;
+    }
 
-  pub take-back-file : (r : Played) → r ≡ takeBackFile f p → (told (r .answer) ≡ takeBackTold f bytes p) × (r .position ≡ takeBackLeft f bytes p)
-  unfolding takeBackFile takeBackTold takeBackLeft
-  take-back-file r e =
-      let call : ℕ → List ℕ → Played = λ n masks. takeBackIn n masks p in
-      let same : (fine : verdictOf f ≡ Fine) → call (nOf f) (domainsOf f) ≡ call (problemOf f bytes fine .n) (problemOf f bytes fine .domain)
-      = λ fine. take-back-same _ (nOf f) (domainsOf f) (read-domains f bytes fine) p in (
-        ap (λ (x : Played). told (x .answer)) e ∙ file-told f p call bytes same (verdictOf f) refl,
-        ap (λ (x : Played). x .position) e ∙ file-left f p call bytes same (verdictOf f) refl,
-      )
+    pub play-read : (a : ℕ) (r : Played) → r ≡ playIn n D p a → r ≡ playFile f p a
+    play-read a r e = e ∙ play-same _ n D domains-of p a ∙ sym (play-file (s .fine) a)
 
-  pub open-read : (fine : verdictOf f ≡ Fine) (r : Opened) → r ≡ openIn (problemOf f bytes fine) p
-      → (toldOpened r ≡ openTold f bytes p) × (r .masks ≡ masksShown f bytes p) × (r .counts ≡ countsShown f bytes p)
+    pub take-back-read : (r : Played) → r ≡ takeBackIn n D p → r ≡ takeBackFile f p
+    take-back-read r e = e ∙ take-back-same _ n D domains-of p ∙ sym (take-back-file (s .fine))
+
+  pub open-read : (fine : verdictOf f ≡ Fine) (r : Opened) → r ≡ openIn (problemOf f fine) p
+      → (toldOpened r ≡ openTold f p) × (r .masks ≡ masksShown f p) × (r .counts ≡ countsShown f p)
   open-read fine r q = (
     ap toldOpened q ∙ sym (open-told fine),
     ap (λ (x : Opened). x .masks) q ∙ sym (masks-shown fine),

@@ -25,7 +25,6 @@ use Rattle.theory.proofs.TurnLists.{legal-out}
 use Rattle.theory.proofs.Standing.{legal-after, standing-legal}
 use Rattle.tables.specs.FileProblem.{problemOf}
 use Rattle.tables.proofs.FileLaws.{most}
-use Rattle.rules.specs.Alone.{Bytes}
 use Rattle.position.specs.declared.Position.{Position}
 use Rattle.position.specs.Position.{shown, playsOf, fitsIn}
 use Rattle.position.proofs.Fitting.{legal-fits}
@@ -35,9 +34,9 @@ use Rattle.session.specs.declared.Opened.{Opened}
 use Rattle.session.specs.declared.Answer.the-variants.{Done}
 use Rattle.session.specs.Plays.{answerBy, positionBy, fitTest, playTest, takeBackTest, playIn, takeBackIn}
 use Rattle.session.specs.Opening.{spread, listBy, openIn}
-use Rattle.session.specs.Told.{toldWith, told, toldOpened, openTold, masksShown, countsShown}
+use Rattle.session.specs.Told.{toldWith, told, toldOpened, playTold, playLeft, takeBackTold, takeBackLeft, openTold, masksShown, countsShown}
 use Rattle.session.specs.History.{callTold, step, reachedFrom, reachedBy, listTold, listOpened}
-use Rattle.session.proofs.FileLaws.{play-told, play-left, take-back-told, take-back-left, open-told, masks-shown, counts-shown}
+use Rattle.session.proofs.FileLaws.{play-file, take-back-file, open-told, masks-shown, counts-shown}
 
 module _ (P : Problem) (small : P .n ≤ 32) where
   -- A position that shows legal plays fits.
@@ -109,63 +108,63 @@ told-moves P (x ∷ l) takeBack q = λ z. omega (arith, ap length z, length-with
 
 -- ---- over a file
 
-module _ (f : List ℕ) (bytes : Bytes f) (fine : verdictOf f ≡ Fine) where
+module _ (f : List ℕ) (fine : verdictOf f ≡ Fine) where
   -- The problem of the file.
   abbrev P : Problem
-  P = problemOf f bytes fine
+  P = problemOf f fine
 
   few : P .n ≤ 32
   unfolding problemOf
   few = most f fine
 
   -- One call on a position that shows legal plays: what it tells is what the plain list says, and it shows the plays that then stand.
-  call-told : (l : List ℕ) (c : Call) → T (legal P l) → callTold f bytes (shown l) c ≡ listTold P l c
-  unfolding callTold
-  call-told l (play a) t = play-told f bytes (shown l) fine a ∙ play-by P few l a t _ _ refl refl .tells
-  call-told l takeBack t = take-back-told f bytes (shown l) fine ∙ take-back-by P few l t .tells
+  call-told : (l : List ℕ) (c : Call) → T (legal P l) → callTold f (shown l) c ≡ listTold P l c
+  unfolding callTold playTold takeBackTold
+  call-told l (play a) t = ap (λ (x : Played). told (x .answer)) (play-file f (shown l) fine a) ∙ play-by P few l a t _ _ refl refl .tells
+  call-told l takeBack t = ap (λ (x : Played). told (x .answer)) (take-back-file f (shown l) fine) ∙ take-back-by P few l t .tells
 
-  call-leads : (l : List ℕ) (c : Call) → T (legal P l) → step f bytes (shown l) c ≡ shown (afterCall P l c)
-  unfolding step
-  call-leads l (play a) t = play-left f bytes (shown l) fine a ∙ play-by P few l a t _ _ refl refl .leads
-  call-leads l takeBack t = take-back-left f bytes (shown l) fine ∙ take-back-by P few l t .leads
+  call-leads : (l : List ℕ) (c : Call) → T (legal P l) → step f (shown l) c ≡ shown (afterCall P l c)
+  unfolding step playLeft takeBackLeft
+  call-leads l (play a) t = ap (λ (x : Played). x .position) (play-file f (shown l) fine a) ∙ play-by P few l a t _ _ refl refl .leads
+  call-leads l takeBack t = ap (λ (x : Played). x .position) (take-back-file f (shown l) fine) ∙ take-back-by P few l t .leads
 
-  calls-lead : (l : List ℕ) (cs : List Call) → T (legal P l) → reachedFrom f bytes (shown l) cs ≡ shown (standingFrom P l cs)
+  calls-lead : (l : List ℕ) (cs : List Call) → T (legal P l) → reachedFrom f (shown l) cs ≡ shown (standingFrom P l cs)
   unfolding reachedFrom standingFrom
   calls-lead l [] t = refl
-  calls-lead l (c ∷ cs) t = ap (λ (q : Position). reachedFrom f bytes q cs) (call-leads l c t) ∙ calls-lead (afterCall P l c) cs (legal-after P l c t)
+  calls-lead l (c ∷ cs) t = ap (λ (q : Position). reachedFrom f q cs) (call-leads l c t) ∙ calls-lead (afterCall P l c) cs (legal-after P l c t)
 
   -- After any list of calls, refused ones among them, the position shows exactly the plays that stand.
-  pub reached-shows : (cs : List Call) → reachedBy f bytes cs ≡ shown (standing P cs)
+  pub reached-shows : (cs : List Call) → reachedBy f cs ≡ shown (standing P cs)
   unfolding reachedBy standing standingFrom
   reached-shows cs = calls-lead [] cs (standing-legal P [])
 
   -- It fits, and its plays are those.
-  pub reached-fits : (cs : List Call) → T (fitsIn (reachedBy f bytes cs) (P .n) (P .domain))
+  pub reached-fits : (cs : List Call) → T (fitsIn (reachedBy f cs) (P .n) (P .domain))
   reached-fits cs = rw (reached-shows cs) (legal-fit P few (standing P cs) (standing-legal P cs))
 
-  pub reached-plays : (cs : List Call) → playsOf (reachedBy f bytes cs) ≡ standing P cs
+  pub reached-plays : (cs : List Call) → playsOf (reachedBy f cs) ≡ standing P cs
   reached-plays cs = ap playsOf (reached-shows cs) ∙ plays-shown (standing P cs)
 
   -- The next call tells what the plain list says: 20, 21 or 10 where the list stays as it is, else done.
-  pub reached-told : (cs : List Call) (c : Call) → callTold f bytes (reachedBy f bytes cs) c ≡ listTold P (standing P cs) c
-  reached-told cs c = ap (λ (q : Position). callTold f bytes q c) (reached-shows cs) ∙ call-told (standing P cs) c (standing-legal P cs)
+  pub reached-told : (cs : List Call) (c : Call) → callTold f (reachedBy f cs) c ≡ listTold P (standing P cs) c
+  reached-told cs c = ap (λ (q : Position). callTold f q c) (reached-shows cs) ∙ call-told (standing P cs) c (standing-legal P cs)
 
   -- The open values shown at the position reached are those of the plays that stand, and so are their counts.
-  pub reached-opens : (cs : List Call) → openTold f bytes (reachedBy f bytes cs) ≡ listOpened P (standing P cs)
+  pub reached-opens : (cs : List Call) → openTold f (reachedBy f cs) ≡ listOpened P (standing P cs)
   unfolding toldOpened toldWith listOpened
   reached-opens cs =
-      ap (openTold f bytes) (reached-shows cs)
-      ∙ open-told f bytes (shown (standing P cs)) fine
+      ap (openTold f) (reached-shows cs)
+      ∙ open-told f (shown (standing P cs)) fine
       ∙ ap toldOpened (open-by P few (standing P cs) (standing-legal P cs))
 
-  pub reached-masks : (cs : List Call) → masksShown f bytes (reachedBy f bytes cs) ≡ spread (openValues P (standing P cs))
+  pub reached-masks : (cs : List Call) → masksShown f (reachedBy f cs) ≡ spread (openValues P (standing P cs))
   reached-masks cs =
-      ap (masksShown f bytes) (reached-shows cs)
-      ∙ masks-shown f bytes (shown (standing P cs)) fine
+      ap (masksShown f) (reached-shows cs)
+      ∙ masks-shown f (shown (standing P cs)) fine
       ∙ ap (λ (o : Opened). o .masks) (open-by P few (standing P cs) (standing-legal P cs))
 
-  pub reached-counts : (cs : List Call) → countsShown f bytes (reachedBy f bytes cs) ≡ spread (openCounts P (standing P cs))
+  pub reached-counts : (cs : List Call) → countsShown f (reachedBy f cs) ≡ spread (openCounts P (standing P cs))
   reached-counts cs =
-      ap (countsShown f bytes) (reached-shows cs)
-      ∙ counts-shown f bytes (shown (standing P cs)) fine
+      ap (countsShown f) (reached-shows cs)
+      ∙ counts-shown f (shown (standing P cs)) fine
       ∙ ap (λ (o : Opened). o .counts) (open-by P few (standing P cs) (standing-legal P cs))

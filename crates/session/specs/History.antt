@@ -9,21 +9,20 @@ use Rattle.game.specs.Problem.{Problem}
 use Rattle.game.specs.Lists.{domains}
 use Rattle.game.specs.Calls.{Call, play, takeBack}
 use Rattle.game.specs.Open.{openValues, openCounts}
-use Rattle.rules.specs.Alone.{Bytes}
 use Rattle.position.specs.declared.Position.{Position}
 use Rattle.position.specs.Position.{shown}
 use Rattle.session.specs.Opening.{spread}
 use Rattle.session.specs.Told.{playTold, playLeft, takeBackTold, takeBackLeft}
 
-module _ (f : List ℕ) (bytes : Bytes f) where
+module _ (f : List ℕ) where
   -- What a call tells, and the position that it returns, also where it is refused.
   unfoldable pub callTold : Position → Call → Told
-  callTold p (play a) = playTold f bytes p a
-  callTold p takeBack = takeBackTold f bytes p
+  callTold p (play a) = playTold f p a
+  callTold p takeBack = takeBackTold f p
 
   unfoldable pub step : Position → Call → Position
-  step p (play a) = playLeft f bytes p a
-  step p takeBack = takeBackLeft f bytes p
+  step p (play a) = playLeft f p a
+  step p takeBack = takeBackLeft f p
 
   -- The position that calls reach from p; from the fresh position.
   unfoldable pub reachedFrom : Position → List Call → Position

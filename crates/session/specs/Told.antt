@@ -4,12 +4,12 @@ use Prim.Native.Nat.{ℕ}
 use mathlib.Core.List.{List, [], _++_}
 use lib.ListN.{replicate}
 use Rattle.refusal.specs.Told.{Told, replied, refused, refusedAt}
-use Rattle.rules.specs.Alone.{Bytes, readFirst}
+use Rattle.rules.specs.Alone.{readFirst}
 use Rattle.position.specs.declared.Position.{Position}
 use Rattle.session.specs.declared.Answer.{Answer}
 use Rattle.session.specs.declared.Answer.the-variants.{Done, Refused, RefusedAt}
 use Rattle.session.specs.declared.Opened.{Opened}
-use Rattle.session.specs.Plays.{playIn, takeBackIn}
+use Rattle.session.specs.Files.{playFile, takeBackFile}
 use Rattle.session.specs.Opening.{openIn}
 
 -- Each case of an answer in document 01's numbers, with the values that a finished reply has: none beside the position; masks and counts.
@@ -24,25 +24,25 @@ told a = toldWith [] a
 unfoldable pub toldOpened : Opened → Told
 toldOpened o = toldWith (o .masks ++ o .counts) (o .answer)
 
-module _ (f : List ℕ) (bytes : Bytes f) (p : Position) where
+module _ (f : List ℕ) (p : Position) where
   unfoldable pub playTold : ℕ → Told
-  playTold a = readFirst f bytes refusedAt (λ P. told (playIn (P .n) (P .domain) p a .answer))
+  playTold a = told (playFile f p a .answer)
 
   unfoldable pub playLeft : ℕ → Position
-  playLeft a = readFirst f bytes (λ e k. p) (λ P. playIn (P .n) (P .domain) p a .position)
+  playLeft a = playFile f p a .position
 
   unfoldable pub takeBackTold : Told
-  takeBackTold = readFirst f bytes refusedAt (λ P. told (takeBackIn (P .n) (P .domain) p .answer))
+  takeBackTold = told (takeBackFile f p .answer)
 
   unfoldable pub takeBackLeft : Position
-  takeBackLeft = readFirst f bytes (λ e k. p) (λ P. takeBackIn (P .n) (P .domain) p .position)
+  takeBackLeft = takeBackFile f p .position
 
   -- A finished reply tells 32 masks, then 32 counts. "Nothing else is returned": of a refused call both are zero.
   unfoldable pub openTold : Told
-  openTold = readFirst f bytes refusedAt (λ P. toldOpened (openIn P p))
+  openTold = readFirst f refusedAt (λ P. toldOpened (openIn P p))
 
   unfoldable pub masksShown : List ℕ
-  masksShown = readFirst f bytes (λ e k. replicate 32 0) (λ P. openIn P p .masks)
+  masksShown = readFirst f (λ e k. replicate 32 0) (λ P. openIn P p .masks)
 
   unfoldable pub countsShown : List ℕ
-  countsShown = readFirst f bytes (λ e k. replicate 32 0) (λ P. openIn P p .counts)
+  countsShown = readFirst f (λ e k. replicate 32 0) (λ P. openIn P p .counts)

@@ -2,7 +2,6 @@
 // tests the position, then its argument. `play`, `take_back` and `open_values` are open to callers;
 // `play_file` and `take_back_file` are for the panel's session.
 ghost use mathlib.Core.Path.{_≡_};
-ghost use Rattle.rules.specs.Alone.{Bytes};
 ghost use Rattle.session.specs.Told.{told, toldOpened, playTold, playLeft, takeBackTold, takeBackLeft, openTold, masksShown, countsShown};
 
 mod files;
@@ -38,24 +37,24 @@ pub struct Opened {
 
 // Plays this value of the next variable.
 pub fn play(f: &[u8], p: Position, value: usize) -> Played
-    ensures { λ r. ⌜ ((bytes : Bytes (now (f .entry))) → told (r .answer) ≡ playTold (now (f .entry)) bytes p value) ⌝ }
-    ensures { λ r. ⌜ ((bytes : Bytes (now (f .entry))) → r .position ≡ playLeft (now (f .entry)) bytes p value) ⌝ }
+    ensures { λ r. ⌜ told (r .answer) ≡ playTold (now (f .entry)) p value ⌝ }
+    ensures { λ r. ⌜ r .position ≡ playLeft (now (f .entry)) p value ⌝ }
 {
     play_file(f, p, value)
 }
 
 // Takes the last play back.
 pub fn take_back(f: &[u8], p: Position) -> Played
-    ensures { λ r. ⌜ ((bytes : Bytes (now (f .entry))) → told (r .answer) ≡ takeBackTold (now (f .entry)) bytes p) ⌝ }
-    ensures { λ r. ⌜ ((bytes : Bytes (now (f .entry))) → r .position ≡ takeBackLeft (now (f .entry)) bytes p) ⌝ }
+    ensures { λ r. ⌜ told (r .answer) ≡ takeBackTold (now (f .entry)) p ⌝ }
+    ensures { λ r. ⌜ r .position ≡ takeBackLeft (now (f .entry)) p ⌝ }
 {
     take_back_file(f, p)
 }
 
 // The open values of every variable.
 pub fn open_values(f: &[u8], p: Position) -> Opened
-    ensures { λ r. ⌜ ((bytes : Bytes (now (f .entry))) → toldOpened r ≡ openTold (now (f .entry)) bytes p) ⌝ }
-    ensures { λ r. ⌜ ((bytes : Bytes (now (f .entry))) → (r .masks ≡ masksShown (now (f .entry)) bytes p) × (r .counts ≡ countsShown (now (f .entry)) bytes p)) ⌝ }
+    ensures { λ r. ⌜ toldOpened r ≡ openTold (now (f .entry)) p ⌝ }
+    ensures { λ r. ⌜ (r .masks ≡ masksShown (now (f .entry)) p) × (r .counts ≡ countsShown (now (f .entry)) p) ⌝ }
 {
     let mut near = [0u32; 32];
     let mut index = [0u16; 1024];

@@ -1,26 +1,29 @@
 -- Laws of the problem of an accepted file: the look-up finds exactly the pairs that a constraint has, and values are compatible as the
 -- constraint's rows say ("Bit b of row a set: option a of choice i goes with option b of choice j").
 use Prim.Native.Nat.{ℕ, _+_, _*_, _≤_, _<_}
-use mathlib.Core.Path.{_≡_, refl, ap, _∙_}
+use mathlib.Core.Path.{_≡_, refl, sym, ap, _∙_}
 use mathlib.Core.Bool.{Bool, true, false, _&&_}
 use mathlib.Core.List.{List, [], _∷_}
 use lib.Dec.{T}
-use lib.ListN.{getD}
+use lib.ListN.{length, getD, take}
+use lib.Seq.{length-take-le, getD-take, ext-getD}
 use native.Mathlib.Omega.{arith}
 use Rattle.mask.specs.Mask.{bit}
 use Rattle.mask.proofs.Logic.{holds, fails, and-in}
+use Rattle.game.specs.Lists.{listOf}
+use Rattle.theory.proofs.Lists.{length-listOf, getD-listOf}
 use Rattle.refusal.specs.declared.Verdict.the-variants.{Fine}
 use Rattle.refusal.specs.Told.{Told, replied}
-use Rattle.file_layout.specs.Layout.{nOf, mOf, oneAt, twoAt, rowAt, pairAt, constraintsAt}
+use Rattle.file_layout.specs.Layout.{word, nOf, mOf, variablesAt, domainAt, oneAt, twoAt, rowAt, pairAt, constraintsAt}
 use Rattle.file_layout.specs.Numbers.{pairOf}
 use Rattle.file_layout.proofs.NumberLaws.{constraints-most}
 use Rattle.file_records.specs.Records.{verdictOf}
-use Rattle.problem_file.specs.Reading.{domainsOf}
-use Rattle.problem_file.proofs.Accepted.{accepted}
+use Rattle.problem_file.specs.Reading.{domainsFor, domainsOf}
+use Rattle.problem_file.proofs.Accepted.{accepted, domains-is, length-domains, read-domain}
 use Rattle.pair_lookup.specs.Lookup.{lookUp}
 use Rattle.pair_lookup.proofs.Lookup.{look-at, look-finds, ascend}
 use Rattle.pair_lookup.proofs.Shown.{word-shown}
-use Rattle.tables.specs.FileProblem.{found, allows, compatibleOf, symmetric-of, found-order, none-allows, domain-of, problemOf}
+use Rattle.tables.specs.FileProblem.{domainOf, found, allows, compatibleOf, symmetric-of, found-order, none-allows, problemOf}
 use Rattle.tables.proofs.Entered.{Ascending}
 
 and-true : (a b : Bool) → T b → a && b ≡ a
@@ -99,12 +102,23 @@ module _ (f : List ℕ) (fine : verdictOf f ≡ Fine) where
   compatible-free u a v b e d =
       holds (and-in (allows (lookUp f u v) f a b) (allows (lookUp f v u) f b a) (none-allows (lookUp f u v) f a b e) (none-allows (lookUp f v u) f b a d))
 
-  -- The problem's size and domains are those of the reading.
-  module _ (byte : (k : ℕ) → getD f k 0 < 256) where
-    pub problem-size : problemOf f byte fine .n ≡ nOf f
-    unfolding problemOf
-    problem-size = refl
+  -- The problem's size is the file's.
+  pub problem-size : problemOf f fine .n ≡ nOf f
+  unfolding problemOf
+  problem-size = refl
 
-    pub problem-domain : (i : ℕ) → i < nOf f → getD (problemOf f byte fine .domain) i 0 ≡ getD (domainsOf f) i 0
-    unfolding problemOf
-    problem-domain i h = domain-of f byte fine i h
+  -- Its domains are those of the reading: two bytes are below 2^16.
+  length-read : length (domainsOf f) ≡ 32
+  unfolding domainsFor
+  length-read = ap length (domains-is f Fine fine) ∙ length-domains f (variablesAt f) (nOf f)
+
+  pub problem-domains : ((k : ℕ) → getD f k 0 < 256) → problemOf f fine .domain ≡ take (nOf f) (domainsOf f)
+  unfolding problemOf domainOf domainAt word
+  problem-domains bytes =
+      let size = length-listOf (nOf f) (domainOf f) in
+      ext-getD 0 (listOf (nOf f) (domainOf f)) (take (nOf f) (domainsOf f))
+      (size ∙ sym (length-take-le (nOf f) (domainsOf f) (omega (arith, most, length-read))))
+      λ i h.
+      let g : i < nOf f = omega arith in
+      let p = variablesAt f + 4 * i + 2 in
+      omega (arith, getD-listOf (nOf f) (domainOf f) i g, getD-take (nOf f) (domainsOf f) i 0 g, read-domain f fine i g, bytes p, bytes (p + 1))

@@ -27,7 +27,7 @@ use Rattle.pair_lookup.specs.Lookup.{lookUp}
 use Rattle.tables.specs.FileProblem.{universalOf, found, constrainedOf, compatibleOf, problemOf}
 use Rattle.tables.specs.Tables.{columnAt, nearTo, indexTo, rowsTo, nearStart, indexStart, rowsStart, joins, Pairs}
 use Rattle.tables.specs.Decoded.{Decodes}
-use Rattle.tables.proofs.FileLaws.{place, most, fewer, pairs, below, found-has, found-of, compatible-on, compatible-back, compatible-free}
+use Rattle.tables.proofs.FileLaws.{place, most, fewer, pairs, below, found-has, found-of, compatible-on, compatible-back, compatible-free, problem-domains}
 use Rattle.tables.proofs.Entered.{rows-first, rows-at, columns-at, index-on, index-back, index-none, index-most, near-joins}
 
 or-false : (a b : Bool) → b ≡ false → a || b ≡ a
@@ -196,9 +196,9 @@ module _ (f : List ℕ) (fine : verdictOf f ≡ Fine) where
       compatible-free f fine u a v b e d ∙ sym (all-ones b s) ∙ ap (λ x. bit x b) (sym (row-free u a v x g y e d))))
 
   -- The arrays state the problem.
-  pub stated : (byte : (k : ℕ) → getD f k 0 < 256) → States (problemOf f byte fine) (nOf f) (universalBits f (variablesAt f) (nOf f)) nearAll indexAll rowsAll
+  pub stated : States (problemOf f fine) (nOf f) (universalBits f (variablesAt f) (nOf f)) nearAll indexAll rowsAll
   unfolding problemOf universalOf
-  stated byte = record {
+  stated = record {
     size = refl;
     most = most f fine;
     side = λ i h. sym (read-universal f (variablesAt f) (nOf f) i h);
@@ -216,7 +216,8 @@ not-both f e p g h = let z : _≡_ {A = ℕ} 0 1 = cc in omega arith
 pub leaves : (f near index rows : List ℕ) (e p : ℕ) → verdictOf f ≡ Not e p → Decodes f near index rows near index rows
 leaves f near index rows e p h = record {
   range = λ g. absurd (not-both f e p g h);
-  states = λ byte g. absurd (not-both f e p g h);
+  states = λ g. absurd (not-both f e p g h);
+  domains = λ g. absurd (not-both f e p g h);
   kept = λ k q g. (refl, refl, refl);
 }
 
@@ -232,40 +233,41 @@ ready f b n m fine x y z =
     )
 
 -- and so it is entered whole.
-pub enters : (f near₀ index₀ rows₀ near index rows : List ℕ) (b n m : ℕ) → verdictOf f ≡ Fine → b ≡ variablesAt f → n ≡ nOf f → m ≡ mOf f →
+pub enters : (f near₀ index₀ rows₀ near index rows : List ℕ) (b n m : ℕ) → ((k : ℕ) → getD f k 0 < 256) → verdictOf f ≡ Fine → b ≡ variablesAt f → n ≡ nOf f → m ≡ mOf f →
     near ≡ nearTo nearStart f (b + 4 * n) m → index ≡ indexTo indexStart f (b + 4 * n) m → rows ≡ rowsTo rowsStart f (b + 4 * n) m →
     Decodes f near₀ index₀ rows₀ near index rows
 unfolding constraintsAt
-enters f near₀ index₀ rows₀ near index rows b n m fine x y z e d g =
+enters f near₀ index₀ rows₀ near index rows b n m bytes fine x y z e d g =
     rw (e, d, g, x, y, z)
     record {
       range = λ h. in-range f fine;
-      states = λ byte h. stated f h byte;
+      states = λ h. stated f h;
+      domains = λ h. problem-domains f h bytes;
       kept = λ k p h. absurd (not-both f k p fine h);
     }
 
 -- ---- for the crates above
 
 -- What a caller has of a file that decoding accepted with n variables and these universal bits.
-pub record Holds (f : List ℕ) (byte : (k : ℕ) → getD f k 0 < 256) (n universal : ℕ) (near index rows : List ℕ) : Type 0 where
+pub record Holds (f : List ℕ) (n universal : ℕ) (near index rows : List ℕ) : Type 0 where
   pub fine : verdictOf f ≡ Fine
   pub size : n ≡ nOf f
   pub most : n ≤ 32
   pub range : InRange index
-  pub states : States (problemOf f byte fine) n universal near index rows
+  pub states : States (problemOf f fine) n universal near index rows
 
 numbers-same : (P : Problem) (n d u w : ℕ) (near index rows : List ℕ) → n ≡ d → u ≡ w → States P d w near index rows → States P n u near index rows
 numbers-same P n d u w near index rows e g s = rw (e, g) s
 
 -- It follows from the header and the arrays of the reply.
 pub decoded : (f near₀ index₀ rows₀ near index rows : List ℕ) (n m : ℕ) (rules : Rules) (universal : ℕ) → told (Accepted n m rules universal) ≡ headerOf f →
-    Decodes f near₀ index₀ rows₀ near index rows → (byte : (k : ℕ) → getD f k 0 < 256) → Holds f byte n universal near index rows
-decoded f near₀ index₀ rows₀ near index rows n m rules universal e d byte =
+    Decodes f near₀ index₀ rows₀ near index rows → Holds f n universal near index rows
+decoded f near₀ index₀ rows₀ near index rows n m rules universal e d =
     let s = header-shows f n m rules universal e in
     record {
       fine = s .fine;
       size = s .variables;
       most = omega (arith, s .variables, most f (s .fine));
       range = d .range (s .fine);
-      states = numbers-same _ _ _ _ _ _ _ _ (s .variables) (s .bits) (d .states byte (s .fine));
+      states = numbers-same _ _ _ _ _ _ _ _ (s .variables) (s .bits) (d .states (s .fine));
     }

@@ -1,23 +1,28 @@
 -- The problem that an accepted file states: its variables in file order, and of each pair what the look-up shows of it.
-use Prim.Native.Nat.{ℕ, _+_, _*_, _≤_, _<_}
-use mathlib.Core.Path.{_≡_, refl, sym, ap, _∙_}
+use Prim.Native.Nat.{ℕ, _*_, min, _<_}
+use mathlib.Core.Path.{_≡_, refl}
 use mathlib.Core.Bool.{Bool, true, false, _&&_, _||_}
 use mathlib.Core.List.{List, [], _∷_}
-use lib.ListN.{length, getD, take, List·getD-eq-default}
-use lib.Seq.{length-take-le, getD-take}
+use lib.ListN.{getD}
 use lib.Dec.{T}
 use native.Mathlib.Omega.{arith}
 use Rattle.mask.specs.Mask.{bit}
 use Rattle.mask.proofs.Logic.{clash, by-lt, and-in, or-out}
 use Rattle.game.specs.Problem.{Problem}
+use Rattle.game.specs.Lists.{listOf}
+use Rattle.theory.proofs.Lists.{length-listOf, getD-listOf, getD-beyond}
 use Rattle.refusal.specs.declared.Verdict.the-variants.{Fine}
 use Rattle.refusal.specs.Told.{Told, replied, refused, refusedAt}
 use Rattle.file_layout.specs.Layout.{word, nOf, variablesAt, domainAt, universalAt}
 use Rattle.file_records.specs.Records.{verdictOf}
-use Rattle.problem_file.specs.Reading.{domainsOf, domainsFor}
-use Rattle.problem_file.proofs.Accepted.{accepted, domains-is, length-domains, read-domain, domain-some}
+use Rattle.problem_file.proofs.Accepted.{accepted}
 use Rattle.pair_lookup.specs.Lookup.{lookUp, rowsAt}
 use Rattle.pair_lookup.proofs.Lookup.{look-at}
+
+-- "two bytes, a mask of options": a number of 16 bits. The bound cuts nothing in a slice, whose elements are bytes (`problem-domains`
+-- in `proofs/FileLaws.antt`), and it keeps a domain that is not zero, so every list that is accepted states a problem.
+unfoldable pub domainOf : List ℕ → ℕ → ℕ
+domainOf f i = min (domainAt f (variablesAt f) i) 65535
 
 -- "a choice of the day, universal".
 unfoldable pub universalOf : List ℕ → ℕ → Bool
@@ -95,44 +100,30 @@ free-of f i j e a b =
     let n = neither (found (lookUp f i j)) (found (lookUp f j i)) e in
     and-in (allows (lookUp f i j) f a b) (allows (lookUp f j i) f b a) (none-allows (lookUp f i j) f a b (n .0)) (none-allows (lookUp f j i) f b a (n .1))
 
-module _ (f : List ℕ) (byte : (k : ℕ) → getD f k 0 < 256) (fine : verdictOf f ≡ Fine) where
-  -- There are n domains, each the reading's, each below 2^16.
-  length-of : length (domainsOf f) ≡ 32
-  unfolding domainsFor
-  length-of = ap length (domains-is f Fine fine) ∙ length-domains f (variablesAt f) (nOf f)
+-- Every domain is below 2^16, and none is empty.
+pub bounded-of : (f : List ℕ) (i : ℕ) → getD (listOf (nOf f) (domainOf f)) i 0 < 65536
+unfolding domainOf
+bounded-of f i =
+    by-lt i (nOf f)
+    (λ h. omega (arith, getD-listOf (nOf f) (domainOf f) i h))
+    (λ h. omega (arith, getD-beyond (nOf f) (domainOf f) i h))
 
-  most : nOf f ≤ 32
-  most = accepted f fine .head .counts .most
+pub nonempty-of : (f : List ℕ) → verdictOf f ≡ Fine → (i : ℕ) → i < nOf f → ¬ (getD (listOf (nOf f) (domainOf f)) i 0 ≡ 0)
+unfolding domainOf domainAt
+nonempty-of f fine i h e = accepted f fine .variable i h .domain (omega (arith, getD-listOf (nOf f) (domainOf f) i h))
 
-  pub sized-of : length (take (nOf f) (domainsOf f)) ≡ nOf f
-  sized-of = length-take-le (nOf f) (domainsOf f) (omega (arith, most, length-of))
-
-  pub domain-of : (i : ℕ) → i < nOf f → getD (take (nOf f) (domainsOf f)) i 0 ≡ getD (domainsOf f) i 0
-  domain-of i h = getD-take (nOf f) (domainsOf f) i 0 h
-
-  word-lt : (p : ℕ) → word f p < 65536
-  unfolding word
-  word-lt p = omega (arith, byte p, byte (p + 1))
-
-  pub bounded-of : (i : ℕ) → getD (take (nOf f) (domainsOf f)) i 0 < 65536
-  unfolding domainAt
-  bounded-of i =
-      by-lt i (nOf f)
-      (λ h. omega (arith, domain-of i h, read-domain f fine i h, word-lt (variablesAt f + 4 * i + 2)))
-      (λ h. omega (arith, List·getD-eq-default (take (nOf f) (domainsOf f)) 0 {n = i} (omega (arith, sized-of))))
-
-  -- The problem. Its parts speak of the file; that it is accepted, and of bytes, gives the laws.
-  unfoldable pub problemOf : Problem
-  problemOf = record {
-    n = nOf f;
-    domain = take (nOf f) (domainsOf f);
-    sized = sized-of;
-    bounded = bounded-of;
-    nonempty = λ i h e. domain-some f fine i h (sym (domain-of i h) ∙ e);
-    universal = universalOf f;
-    compatible = compatibleOf f;
-    symmetric = symmetric-of f;
-    constrained = constrainedOf f;
-    apart = apart-of f;
-    free = free-of f;
-  }
+-- The problem. Its parts speak of the file; that it is accepted gives the laws.
+unfoldable pub problemOf : (f : List ℕ) → verdictOf f ≡ Fine → Problem
+problemOf f fine = record {
+  n = nOf f;
+  domain = listOf (nOf f) (domainOf f);
+  sized = length-listOf (nOf f) (domainOf f);
+  bounded = bounded-of f;
+  nonempty = nonempty-of f fine;
+  universal = universalOf f;
+  compatible = compatibleOf f;
+  symmetric = symmetric-of f;
+  constrained = constrainedOf f;
+  apart = apart-of f;
+  free = free-of f;
+}

@@ -3,7 +3,6 @@ use Rattle.marking.specs.Marking.{told, markTold, markLeft}
 use Rattle.rules.proofs.ReadLaws.{read-refused, read-fine}
 use Rattle.problem_file.proofs.Accepted.{header-shows, header-refuses}
 use Rattle.problem_file.specs.Reading.{told as toldHeader}
-use native.Mathlib.Omega.{arith}
 use mathlib.Core.Path.{sym, ap, _∙_}
 use borrow.Author.Needs.{needs}
 use Rattle.marking.proofs.mark.Statement.{statement}
@@ -22,11 +21,11 @@ cast-mark-in : tie.Need-cast-mark-in
 cast-mark-in c = search needs
 
 mark-in-requires : tie.Need-mark-in-requires
-mark-in-requires c κs = ready-of _ _ _ _ _ _ _ _ _ _ _ _ (header-shows _ _ _ _ _ (ap toldHeader (sym (c .before .before .before .before .before .before .h2 .given .1)) ∙ c .before .before .before .before .before .before .before .before .before .decode .ensures .0 .0)) (c .before .before .before .before .before .before .before .before .before .decode .ensures .1) (c .before .before .before .before .before .before .before .before .before .decode .ensures .0 .1) (λ k. omega (arith, c .before .before .before .before .before .before .before .before .before .before .before .before .before .before .shared-slice-known .given k))
+mark-in-requires c κs = ready-of _ _ _ _ _ _ _ _ _ _ _ _ (header-shows _ _ _ _ _ (ap toldHeader (sym (c .before .before .before .before .before .before .h2 .given .1)) ∙ c .before .before .before .before .before .before .before .before .before .decode .ensures .0 .0)) (c .before .before .before .before .before .before .before .before .before .decode .ensures .1) (c .before .before .before .before .before .before .before .before .before .decode .ensures .0 .1)
 
 returns : tie.Need-returns
 unfolding told markTold markLeft
-returns c = let q = header-refuses _ _ _ (ap toldHeader (sym (c .before .h .given .1)) ∙ c .before .before .before .before .decode .ensures .0 .0) in (λ bytes. sym (read-refused _ bytes _ _ _ _ q), λ bytes. sym (read-refused _ bytes _ _ _ _ q))
+returns c = let q = header-refuses _ _ _ (ap toldHeader (sym (c .before .h .given .1)) ∙ c .before .before .before .before .decode .ensures .0 .0) in (sym (read-refused _ _ _ _ _ q), sym (read-refused _ _ _ _ _ q))
 
 same-length : tie.Need-same-length
 same-length c = search needs
@@ -34,10 +33,8 @@ same-length c = search needs
 returns-2 : tie.Need-returns-2
 unfolding markTold markLeft
 returns-2 c = let s = header-shows _ _ _ _ _ (ap toldHeader (sym (c .before .before .before .before .before .before .before .before .before .h2 .given .1)) ∙ c .before .before .before .before .before .before .before .before .before .before .before .before .decode .ensures .0 .0) in
-    let o = poses-of _ _ _ _ _ _ _ _ _ _ _ _ s (c .before .before .before .before .before .before .before .before .before .before .before .before .decode .ensures .1) (c .before .before .before .before .before .before .before .before .before .before .before .before .decode .ensures .0 .1) in (
-      λ bytes. c .before .before .mark-in .ensures _ (o bytes) .0 ∙ sym (read-fine _ bytes _ _ (s .fine)),
-      λ bytes. c .before .before .mark-in .ensures _ (o bytes) .1 ∙ sym (read-fine _ bytes _ _ (s .fine)),
-    )
+    let o = c .before .before .mark-in .ensures _ (poses-of _ _ _ _ _ _ _ _ _ _ _ _ s (c .before .before .before .before .before .before .before .before .before .before .before .before .decode .ensures .1) (c .before .before .before .before .before .before .before .before .before .before .before .before .decode .ensures .0 .1)) in
+    (o .0 ∙ sym (read-fine _ _ _ (s .fine)), o .1 ∙ sym (read-fine _ _ _ (s .fine)))
 
 pub mark-spec : {M : Type 1} → statement M
 mark-spec =

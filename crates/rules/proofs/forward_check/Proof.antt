@@ -24,14 +24,18 @@ forward-in-requires c κs = fits-of _ _ _ _ _ _ _ _ _ _ _ (header-shows _ _ _ _ 
 
 returns : tie.Need-returns
 unfolding told forwardTold forwardLeft
-returns c = let q = header-refuses _ _ _ (ap toldHeader (sym (c .before .h .given .1)) ∙ c .before .before .before .before .decode .ensures .0 .0) in (λ bytes. sym (read-refused _ bytes _ _ _ _ q), λ bytes. sym (read-refused _ bytes _ _ _ _ q))
+returns c = let q = header-refuses _ _ _ (ap toldHeader (sym (c .before .h .given .1)) ∙ c .before .before .before .before .decode .ensures .0 .0) in (sym (read-refused _ _ _ _ _ q), sym (read-refused _ _ _ _ _ q))
 
 same-length : tie.Need-same-length
 same-length c = search needs
 
 returns-2 : tie.Need-returns-2
 unfolding forwardTold forwardLeft
-returns-2 c = let s = header-shows _ _ _ _ _ (ap toldHeader (sym (c .before .before .before .before .before .before .before .before .before .h2 .given .1)) ∙ c .before .before .before .before .before .before .before .before .before .before .before .before .decode .ensures .0 .0) in (λ bytes. c .before .before .forward-in .ensures _ (holds-of _ _ _ _ _ _ _ _ bytes _ _ _ _ s (c .before .before .before .before .before .before .before .before .before .before .before .before .decode .ensures .1) (c .before .before .before .before .before .before .before .before .before .before .before .before .decode .ensures .0 .1)) .0 ∙ sym (read-fine _ bytes _ _ (s .fine)), λ bytes. c .before .before .forward-in .ensures _ (holds-of _ _ _ _ _ _ _ _ bytes _ _ _ _ s (c .before .before .before .before .before .before .before .before .before .before .before .before .decode .ensures .1) (c .before .before .before .before .before .before .before .before .before .before .before .before .decode .ensures .0 .1)) .1 ∙ sym (read-fine _ bytes _ _ (s .fine)))
+returns-2 c =
+    let d = c .before .before .before .before .before .before .before .before .before .before .before .before .decode .ensures in
+    let s = header-shows _ _ _ _ _ (ap toldHeader (sym (c .before .before .before .before .before .before .before .before .before .h2 .given .1)) ∙ d .0 .0) in
+    let o = c .before .before .forward-in .ensures _ (holds-of _ _ _ _ _ _ _ _ _ _ _ _ s (d .1) (d .0 .1)) in
+    (o .0 ∙ sym (read-fine _ _ _ (s .fine)), o .1 ∙ sym (read-fine _ _ _ (s .fine)))
 
 pub forward-check-spec : {M : Type 1} → statement M
 forward-check-spec =

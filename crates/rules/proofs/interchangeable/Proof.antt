@@ -24,11 +24,11 @@ interchangeable-in-requires c κs = fits-of _ _ _ _ _ _ _ _ _ _ _ (header-shows 
 
 returns : tie.Need-returns
 unfolding toldValues interchangeableTold
-returns c = λ bytes. sym (read-refused _ bytes _ _ _ _ (header-refuses _ _ _ (ap told (sym (c .before .h .given .1)) ∙ c .before .before .before .before .decode .ensures .0 .0)))
+returns c = sym (read-refused _ _ _ _ _ (header-refuses _ _ _ (ap told (sym (c .before .h .given .1)) ∙ c .before .before .before .before .decode .ensures .0 .0)))
 
 returns-2 : tie.Need-returns-2
 unfolding interchangeableTold
-returns-2 c = λ bytes. let s = header-shows _ _ _ _ _ (ap told (sym (c .before .before .before .before .before .before .h2 .given .1)) ∙ c .before .before .before .before .before .before .before .before .before .decode .ensures .0 .0) in c .interchangeable-in .ensures _ _ (holds-of _ _ _ _ _ _ _ _ bytes _ _ _ _ s (c .before .before .before .before .before .before .before .before .before .decode .ensures .1) (c .before .before .before .before .before .before .before .before .before .decode .ensures .0 .1)) ∙ sym (read-fine _ bytes _ _ (s .fine))
+returns-2 c = let s = header-shows _ _ _ _ _ (ap told (sym (c .before .before .before .before .before .before .h2 .given .1)) ∙ c .before .before .before .before .before .before .before .before .before .decode .ensures .0 .0) in c .interchangeable-in .ensures _ _ (holds-of _ _ _ _ _ _ _ _ _ _ _ _ s (c .before .before .before .before .before .before .before .before .before .decode .ensures .1) (c .before .before .before .before .before .before .before .before .before .decode .ensures .0 .1)) ∙ sym (read-fine _ _ _ (s .fine))
 
 pub interchangeable-spec : {M : Type 1} → statement M
 interchangeable-spec =

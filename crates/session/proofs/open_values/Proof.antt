@@ -29,17 +29,16 @@ returns : tie.Need-returns
 unfolding toldWith toldOpened openTold masksShown countsShown
 returns c =
     let q = header-refuses _ _ _ (ap toldHeader (sym (c .before .h .given .1)) ∙ c .before .before .before .before .decode .ensures .0 .0) in (
-      λ bytes. sym (read-refused _ bytes _ _ _ _ q),
-      λ bytes. (sym (read-refused _ bytes _ _ _ _ q), sym (read-refused _ bytes _ _ _ _ q)),
+      sym (read-refused _ _ _ _ _ q),
+      (sym (read-refused _ _ _ _ _ q), sym (read-refused _ _ _ _ _ q)),
     )
 
 returns-2 : tie.Need-returns-2
 returns-2 c =
     let d = c .before .before .before .before .before .before .before .before .decode .ensures in
-    let s = header-shows _ _ _ _ _ (ap toldHeader (sym (c .before .before .before .before .before .h2 .given .1)) ∙ d .0 .0) in (
-      λ bytes. open-read _ bytes _ (s .fine) _ (c .open-in .ensures _ _ (holds-of _ _ _ _ _ _ _ _ bytes _ _ _ _ s (d .1) (d .0 .1))) .0,
-      λ bytes. let o = open-read _ bytes _ (s .fine) _ (c .open-in .ensures _ _ (holds-of _ _ _ _ _ _ _ _ bytes _ _ _ _ s (d .1) (d .0 .1))) in (o .1, o .2),
-    )
+    let s = header-shows _ _ _ _ _ (ap toldHeader (sym (c .before .before .before .before .before .h2 .given .1)) ∙ d .0 .0) in
+    let o = open-read _ _ (s .fine) _ (c .open-in .ensures _ _ (holds-of _ _ _ _ _ _ _ _ _ _ _ _ s (d .1) (d .0 .1))) in
+    (o .0, (o .1, o .2))
 
 pub open-values-spec : {M : Type 1} → statement M
 open-values-spec =

@@ -1,5 +1,7 @@
 use borrow.Author.Needs.{needs}
-use Rattle.session.proofs.FileLaws.{play-file}
+use mathlib.Core.Path.{ap}
+use Rattle.session.specs.declared.Played.{Played}
+use Rattle.session.specs.Told.{told, playTold, playLeft}
 use Rattle.session.proofs.play.Statement.{statement}
 use Rattle.session.proofs.play.Tie as tie
 
@@ -7,7 +9,8 @@ play-file-requires : tie.Need-play-file-requires
 play-file-requires c κs = search needs
 
 returns : tie.Need-returns
-returns c = (λ bytes. play-file _ bytes _ _ _ (c .play-file .ensures) .0, λ bytes. play-file _ bytes _ _ _ (c .play-file .ensures) .1)
+unfolding playTold playLeft
+returns c = (ap (λ (x : Played). told (x .answer)) (c .play-file .ensures), ap (λ (x : Played). x .position) (c .play-file .ensures))
 
 pub play-spec : {M : Type 1} → statement M
 play-spec = tie.close (tie.spec play-file-requires returns)

@@ -51,7 +51,7 @@ returns-2 c =
     let s = shows (c .before .before .before .before) in
     let e = c .put-all .ensures in (
       c .before .before .before .before .before .before .before .before .read .ensures,
-      enters _ _ _ _ _ _ _ _ _ _ (s .fine) (c .before .before .before .before .variables-at .ensures) (s .variables) (s .constraints) (e .0) (e .1 .0) (e .1 .1),
+      enters _ _ _ _ _ _ _ _ _ _ (λ k. omega (arith, c .before .before .before .before .before .before .before .before .before .shared-slice-known .given k)) (s .fine) (c .before .before .before .before .variables-at .ensures) (s .variables) (s .constraints) (e .0) (e .1 .0) (e .1 .1),
     )
 
 pub decode-spec : {M : Type 1} → statement M

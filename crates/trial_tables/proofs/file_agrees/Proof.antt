@@ -1,6 +1,5 @@
 use borrow.Author.Needs.{needs}
 use mathlib.Core.Path.{sym, ap, _∙_}
-use native.Mathlib.Omega.{arith}
 use Rattle.problem_file.specs.Reading.{told}
 use Rattle.tables.proofs.Stated.{decoded}
 use Rattle.trial_tables.proofs.file_agrees.Statement.{statement}
@@ -36,9 +35,7 @@ cast-pairs-agree c = search needs
 pairs-agree-requires : tie.Need-pairs-agree-requires
 pairs-agree-requires c κs =
     let d = c .before .before .before .before .before .before .decode .ensures in
-    let h =
-    decoded _ _ _ _ _ _ _ _ _ _ _ (ap told (sym (c .before .before .before .before .h .given .1)) ∙ d .0 .0) (d .1)
-    (λ k. omega (arith, c .before .before .before .before .before .before .before .before .before .before .shared-slice-known .given k)) in
+    let h = decoded _ _ _ _ _ _ _ _ _ _ _ (ap told (sym (c .before .before .before .before .h .given .1)) ∙ d .0 .0) (d .1) in
     (h .most, h .range)
 
 returns : tie.Need-returns

@@ -1,5 +1,4 @@
 use mathlib.Core.Path.{sym, ap, _∙_}
-use native.Mathlib.Omega.{arith}
 use Rattle.problem_file.specs.Reading.{told}
 use Rattle.problem_file.proofs.Accepted.{header-shows}
 use Rattle.judging.proofs.JudgeLaws.{ready-of}
@@ -23,7 +22,7 @@ conflict-in-requires : tie.Need-conflict-in-requires
 conflict-in-requires c κs =
     let d = c .before .before .before .before .before .before .before .before .decode .ensures in
     let s = header-shows _ _ _ _ _ (ap told (sym (c .before .before .before .before .before .h .given .1)) ∙ d .0 .0) in
-    let q = ready-of _ _ _ _ _ _ _ _ _ _ _ _ s (d .1) (d .0 .1) (λ k. omega (arith, c .before .before .before .before .before .before .before .before .before .before .before .before .shared-slice-known .given k)) in
+    let q = ready-of _ _ _ _ _ _ _ _ _ _ _ _ s (d .1) (d .0 .1) in
     (q .0, q .1, record { problem = q .2 .problem; states = q .2 .poses .states })
 
 returns : tie.Need-returns

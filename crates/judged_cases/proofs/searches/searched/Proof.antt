@@ -1,5 +1,4 @@
 use mathlib.Core.Path.{sym, ap, _∙_}
-use native.Mathlib.Omega.{arith}
 use Rattle.problem_file.specs.Reading.{told}
 use Rattle.problem_file.proofs.Accepted.{header-shows}
 use Rattle.judging.proofs.JudgeLaws.{ready-of}
@@ -26,7 +25,7 @@ searched-in-requires : tie.Need-searched-in-requires
 searched-in-requires c κs =
     let d = c .before .before .before .before .before .before .before .before .decode .ensures in
     let s = header-shows _ _ _ _ _ (ap told (sym (c .before .before .before .before .before .h .given .1)) ∙ d .0 .0) in
-    ready-of _ _ _ _ _ _ _ _ _ _ _ _ s (d .1) (d .0 .1) (λ k. omega (arith, c .before .before .before .before .before .before .before .before .before .before .before .before .shared-slice-known .given k))
+    ready-of _ _ _ _ _ _ _ _ _ _ _ _ s (d .1) (d .0 .1)
 
 returns : tie.Need-returns
 returns c = search needs

@@ -1,8 +1,9 @@
 use borrow.Author.Needs.{needs}
 use mathlib.Core.Path.{sym, ap, _∙_}
+use native.Mathlib.Omega.{arith}
 use Rattle.problem_file.proofs.Accepted.{header-shows, header-refuses}
 use Rattle.problem_file.specs.Reading.{told as toldHeader}
-use Rattle.session.proofs.FileLaws.{read-most, file-refused, file-accepted}
+use Rattle.session.proofs.FileLaws.{read-most, file-refused, take-back-read}
 use Rattle.session.specs.Files.{takeBackFile}
 use Rattle.session.proofs.files.take_back_file.Statement.{statement}
 use Rattle.session.proofs.files.take_back_file.Tie as tie
@@ -27,11 +28,10 @@ unfolding takeBackFile
 returns c = file-refused _ _ _ _ _ (header-refuses _ _ _ (ap toldHeader (sym (c .before .h .given .1)) ∙ c .before .before .before .before .read .ensures .0))
 
 returns-2 : tie.Need-returns-2
-unfolding takeBackFile
 returns-2 c =
     let d = c .before .before .before .before .before .before .read .ensures in
     let s = header-shows _ _ _ _ _ (ap toldHeader (sym (c .before .before .before .h2 .given .1)) ∙ d .0) in
-    file-accepted _ _ _ _ _ _ _ _ _ s (d .1) (c .take-back-in .ensures)
+    take-back-read _ _ _ _ _ _ _ (λ k. omega (arith, c .before .before .before .before .before .before .before .shared-slice-known .given k)) s (d .1) _ (c .take-back-in .ensures)
 
 pub take-back-file-spec : {M : Type 1} → statement M
 take-back-file-spec =
