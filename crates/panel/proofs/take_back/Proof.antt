@@ -1,5 +1,5 @@
--- `panel::take_back` meets its contract: a walk of its MIR, by hand. The borrow is opened, the record is copied out whole, `take_back_file` is called on the copy,
--- the record of the reply is stored whole, and the borrow is closed at it. All that the proof knows of `take_back_file` is that it meets its contract.
+-- `panel::take_back` meets its contract: a walk of its MIR, by hand. The borrow is opened, the record is copied out whole, `taken_back` is called on the copy,
+-- the record of the reply is stored whole, and the borrow is closed at it. All that the proof knows of `taken_back` is that it meets its contract.
 -- Assumes nothing.
 use mathlib.Core.Path.{_≡_, refl, ap}
 use Prim.Native.Nat.{ℕ, _<_, _≤_, _^_}
@@ -45,16 +45,17 @@ use denote.Exit.{yes}
 use Rattle.position.specs.declared.Position.{Position}
 use Rattle.session.specs.declared.Played.{Played}
 use Rattle.session.specs.Files.{takeBackFile}
+use Rattle.session.specs.Told.{told, takeBackTold, takeBackLeft}
 use Rattle.position.proofs.Position as T
 use Rattle.position.proofs.Position.Laws as T′
 use Rattle.session.proofs.Answer as E
 use Rattle.session.proofs.Answer.Laws as E′
 use Rattle.session.proofs.Played as P
 use Rattle.session.proofs.Played.Laws as P′
-use Rattle.session.proofs.take_back_file as callee
-use Rattle.session.proofs.take_back_file.Symbol as callee-def
-use Rattle.session.proofs.take_back_file.Symbol.{name as #callee}
-use Rattle.session.proofs.take_back_file.Met as callee-thm
+use Rattle.panel.proofs.taken_back as callee
+use Rattle.panel.proofs.taken_back.Symbol as callee-def
+use Rattle.panel.proofs.taken_back.Symbol.{name as #callee}
+use Rattle.panel.proofs.taken_back.Met as callee-thm
 use Rattle.panel.proofs.take_back.Key.{name as #session}
 use Rattle.panel.proofs.take_back as session
 use Rattle.panel.proofs.take_back.Statement as stated
@@ -95,6 +96,9 @@ module _ {M : Type 1} (𝓤 : URA M) (H : Heap 𝓤) (A : Atoms 𝓤) (W : Given
   abbrev found : Played
   found = takeBackFile (s .now) h
 
+  abbrev Says : Played → Type 0
+  Says r = (r ≡ found) × (told (r .answer) ≡ takeBackTold (s .now) h) × (r .position ≡ takeBackLeft (s .now) h)
+
   abbrev Post : Val → SProp 𝓤
   Post = walkOf 𝓤 H A session.ended stayed (session.clauses 𝓤 H A at-mem run) .post (((κ, (κ′, tt)), (q, (q′, tt)), tt, a, vals), tt)
 
@@ -113,8 +117,8 @@ module _ {M : Type 1} (𝓤 : URA M) (H : Heap 𝓤) (A : Atoms 𝓤) (W : Given
       qed W (‵ Dom ∷ ‵ (flft κ q) ∷ []) ∵ nothing ! $ owned ! T.the-row (Is T.the-row) (LL.makes T.the-type T′.the-plain 𝓤 H A) h _ g $ fjoin ! $
       move ! (1 ∷ 0 ∷ []) $ fjoin ! $ nothing ! $ move ! (2 ∷ 0 ∷ []) $ join ! $ join ! $ frame ! $ done !
 
-  said : (r : Played) → ent 𝓤 (ensured 𝓤 H A callee.ended (callee.clauses 𝓤 H A at-mem run) (κ, tt) (s, (h, tt)) tt r) (fact 𝓤 (r ≡ found))
-  said r = exE 𝓤 _ (λ ws. snd∗ 𝓤 (sem 𝓤 H A (lasts callee.ended (κ, tt) (s, (h, tt)) ws)) (fact 𝓤 (r ≡ found)))
+  said : (r : Played) → ent 𝓤 (ensured 𝓤 H A callee.ended (callee.clauses 𝓤 H A at-mem run) (κ, tt) (s, (h, tt)) tt r) (fact 𝓤 (Says r))
+  said r = exE 𝓤 _ (λ ws. snd∗ 𝓤 (sem 𝓤 H A (lasts callee.ended (κ, tt) (s, (h, tt)) ws)) (fact 𝓤 (Says r)))
 
   -- what is known of the two fields of the reply
   pos-is : (r : Played) (u : Val) → Is P.the-row r (u ∷ []) → Is T.the-row (r .position) (pos (r .position) ∷ [])
@@ -123,12 +127,12 @@ module _ {M : Type 1} (𝓤 : URA M) (H : Heap 𝓤) (A : Atoms 𝓤) (W : Given
   ans-is : (r : Played) (u : Val) → Is P.the-row r (u ∷ []) → Is E.the-row (r .answer) (EL.val E.the-type E′.the-laws (r .answer) ∷ [])
   ans-is r u is = LL.owed P.the-type P′.the-laws r _ is .0
 
-  exits : (r : Played) → r ≡ found → Is E.the-row (r .answer) (EL.val E.the-type E′.the-laws (r .answer) ∷ [])
+  exits : (r : Played) → Says r → Is E.the-row (r .answer) (EL.val E.the-type E′.the-laws (r .answer) ∷ [])
       → ent 𝓤 (⋆ 𝓤 H A (‵ (fobs γ (T.the-row .coded .code (r .position))) ∷ ‵ (fbor κ′ (Body (mem T.the-row) b o γ)) ∷ ‵ (flft κ′ q′) ∷ (‵ (flft κ q) ⊛ ‵ ftrue) ∷ ‵ Dom ∷ [])) (Post (EL.val E.the-type E′.the-laws (r .answer)))
   exits r e is =
       qed W (‵ (fobs γ (T.the-row .coded .code (r .position))) ∷ ‵ (fbor κ′ (Body (mem T.the-row) b o γ)) ∷ ‵ (flft κ′ q′) ∷ (‵ (flft κ q) ⊛ ‵ ftrue) ∷ ‵ Dom ∷ []) ∵
       suffices ! _ (ends-at 𝓤 H A session.ended stayed (session.clauses 𝓤 H A at-mem run) W (((κ, (κ′, tt)), (q, (q′, tt)), tt, a, vals), tt) (EL.val E.the-type E′.the-laws (r .answer)) (r .answer) (tt, (r .position, tt)) (tt, (tt, tt))) $
-      says ! (ap (λ (p : Played). p .answer) e, ap (λ (p : Played). p .position) e) $
+      says ! (ap (λ (p : Played). p .answer) (e .0), ap (λ (p : Played). p .position) (e .0), e .1, e .2) $
       -- the tokens; then the reference, the numbers and the slice; and the answer
       move ! (3 ∷ []) $ split ! $ move ! (4 ∷ 1 ∷ []) $ join ! $ move ! (1 ∷ 0 ∷ []) $ join ! $ frame ! $
       feqI ! (List Val) (vptr b o ∷ []) (vptr b o ∷ []) refl $ fjoin3 ! $
@@ -156,7 +160,7 @@ module _ {M : Type 1} (𝓤 : URA M) (H : Heap 𝓤) (A : Atoms 𝓤) (W : Given
         -- [what the callee asks; the slice's; the cell; what it owned; the open borrow; obs; auth; true; what is left; the locals]
         calls-at ! fm (Callee 𝓤 H A at-mem run) known to (and-then ! (load ! (from ! (stop !)) (look ! 15 refl)) (and-then ! (load ! (from ! (stop !)) (look ! 11 refl)) (no-more !))) (λ u.
         use1 W (later (some (λ (r : Played). ((‵ (flft κ q) ⊛ ‵ ftrue) ⊛ ‵ (P.the-row .own r (u ∷ []))) ⊛ raw (ensured 𝓤 H A callee.ended (callee.clauses 𝓤 H A at-mem run) (κ, tt) (s, (h, tt)) tt r)))) (id⊢ 𝓤 _) $ await ! tt $ pick ! (λ r.
-        split ! $ move ! (1 ∷ []) $ use1 W (raw (fact 𝓤 (r ≡ found))) (said r) $ heard ! (r ≡ found) (λ e. split ! $ move ! (1 ∷ []) $
+        split ! $ move ! (1 ∷ []) $ use1 W (raw (fact 𝓤 (Says r))) (said r) $ heard ! (Says r) (λ e. split ! $ move ! (1 ∷ []) $
         peeks ! P.the-row (Is P.the-row) (shows 𝓤 H A P.the-row) r (u ∷ []) (λ is. drop ! $
         -- [the first token; the slice's; the cell; ..; the locals]: the reply is spelled out, its record is stored and its answer is the result
         land ! (from ! (stop !)) (init ! 9 refl (LL.lawful P.the-type P′.the-laws 𝓤 H A W .typed r _ is .0)) $
@@ -191,4 +195,4 @@ take-back-spec 𝓤 H 𝓜 𝓖 𝓡 =
     entered 𝓤 H (tripleOf 𝓤 H (𝓖 .A) session.signature (session.spec 𝓤 H (𝓖 .A) (𝓜 .mem) (𝓡 .run)))
     (tables 𝓤 H 𝓜 𝓡 code.env .C) (tables 𝓤 H 𝓜 𝓡 code.env .Λ) #session code.function (code.unfolded 𝓤 H 𝓜 𝓡)
     (meets 𝓤 H (𝓖 .A) (givenOf 𝓤 H 𝓜 𝓖) (𝓜 .mem) (𝓡 .run) (tablesOf 𝓤 H 𝓜 (tables 𝓤 H 𝓜 𝓡 code.env))
-    (cited 𝓤 H (Callee 𝓤 H (𝓖 .A) (𝓜 .mem) (𝓡 .run)) 𝓜 𝓡 code.env #callee callee-def.routine code.calls-session·take-back-file (callee-thm.met 𝓤 H 𝓜 𝓖 𝓡)))
+    (cited 𝓤 H (Callee 𝓤 H (𝓖 .A) (𝓜 .mem) (𝓡 .run)) 𝓜 𝓡 code.env #callee callee-def.routine code.calls-panel·taken-back (callee-thm.met 𝓤 H 𝓜 𝓖 𝓡)))
