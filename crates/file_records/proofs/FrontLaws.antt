@@ -3,12 +3,13 @@ use Prim.Native.Nat.{ℕ, zero, suc, _+_, _*_, _≤_, _<_}
 use mathlib.Core.Path.{_≡_, refl, ap, ap₂, _∙_}
 use mathlib.Core.Bool.{Bool, _||_, not}
 use mathlib.Core.List.{List}
-use lib.Dec.{leb, eqb}
+use lib.Dec.{eqb}
 use native.Mathlib.Omega.{arith}
 use Rattle.refusal.specs.declared.Verdict.{Verdict}
 use Rattle.refusal.specs.declared.Verdict.the-variants.{Fine}
 use Rattle.refusal.specs.Chain.{_then_, need, only}
 use Rattle.refusal.proofs.Chain.{then-same}
+use Rattle.rule_set.specs.RuleSet.{isRuleSet}
 use Rattle.file_layout.specs.Layout.{QP, RS, VE, VA, CT, EN, nOf, mOf, variablesAt, domainAt, oneAt, twoAt, rowAt}
 use Rattle.file_layout.specs.Numbers.{countsFit, constraintFits}
 use Rattle.file_layout.proofs.NumberLaws.{constraints-most, fits-eq}
@@ -28,7 +29,7 @@ module _ (k : ℕ) (f g : List ℕ) (s : SameFront k f g) where
   unfolding rsTest
   rs-front h =
       ap₂ only (marked-front k f g s 5 RS (omega arith))
-      (ap₂ _then_ (opened-front k f g s 5 _ _ 1 h refl) (ap (λ (r : ℕ). need (leb r 127) 8 5) (s .bytes 7 h)))
+      (ap₂ _then_ (opened-front k f g s 5 _ _ 1 h refl) (ap (λ (r : ℕ). need (isRuleSet r) 8 5) (s .bytes 7 h)))
 
   variable-front : (p : ℕ) → p + 4 ≤ k → variableTest f p ≡ variableTest g p
   unfolding variableTest

@@ -1,6 +1,5 @@
 -- A position with one value more played, where that value is in its domain.
 use mathlib.Core.Path.{_≡_, sym, ap, subst, _∙_}
-use mathlib.Core.Bool.{Bool, true, false, cond}
 use mathlib.Core.List.{List, [], _∷_, _++_}
 use Prim.Native.Nat.{ℕ, _≤_, _<_}
 use native.Mathlib.Omega.{arith}
@@ -10,7 +9,6 @@ use lib.Seq.{getD-take}
 use Rattle.mask.specs.Mask.{bit}
 use Rattle.game.specs.Problem.{Problem}
 use Rattle.game.specs.Lists.{domains}
-use Rattle.game.specs.Search.{Verdict, solved, failed, is-solved}
 use Rattle.theory.proofs.Standing.{legal-snoc}
 use Rattle.position.specs.declared.Position.{Position}
 use Rattle.position.specs.Position.{shown, playsOf, pushed, fitsIn}
@@ -33,8 +31,3 @@ module _ (p : Position) (n : ℕ) (masks : List ℕ) (t : T (fitsIn p n masks)) 
       let d : getD (P .domain) (length (playsOf p)) 0 ≡ getD masks (p .plays) 0 = ap (λ i. getD (P .domain) i 0) k ∙ ap (λ (l : List ℕ). getD l (p .plays) 0) f ∙ getD-take n masks (p .plays) 0 more in
       subst (λ (q : Position). T (fitsIn q n masks)) (sym shows)
       (legal-fits P n masks (playsOf p ++ (a ∷ [])) e f (legal-snoc P (playsOf p) a (fits-legal p n masks t small long P e f) (omega arith) (subst (λ v. T (bit v a)) (sym d) m)))
-
--- Whether an outcome is won.
-pub won-is : (v : Verdict) (won : Bool) (l : List ℕ) (q : ℕ) → v ≡ cond won (solved l) (failed q) → won ≡ is-solved v
-won-is v true l q e = sym (ap is-solved e)
-won-is v false l q e = sym (ap is-solved e)

@@ -8,10 +8,11 @@ use Rattle.refusal.specs.declared.Verdict.{Verdict}
 use Rattle.refusal.specs.Told.{Told, replied, refused, refusedAt}
 use Rattle.refusal.specs.Chain.{_then_, need}
 use Rattle.game.specs.Problem.{Problem}
+use Rattle.game.specs.Search.{markedValues}
 use Rattle.game.specs.Winning.{winningValues}
 use Rattle.rules.specs.Alone.{readFirst, listFor}
 use Rattle.position.specs.declared.Position.{Position}
-use Rattle.position.specs.Position.{playsOf}
+use Rattle.position.specs.Position.{playsOf, fitsIn}
 use Rattle.turn_words.specs.TurnRoom.{zeroed}
 use Rattle.search_run.specs.Run.{roomNeeded, Poses}
 use Rattle.judging.specs.Tests.{positionTest, roomTest}
@@ -28,6 +29,10 @@ told (RefusedAt e p) = refusedAt e p
 -- The tests of marking: 8, 23, "22 Done: marks asked when all are played", 12.
 unfoldable pub markTest : ℕ → List ℕ → Position → ℕ → ℕ → Verdict
 markTest n masks p set words = positionTest n masks p set then (need (ltb (p .plays) n) 22 0 then roomTest n words)
+
+-- Those behind the rule set's.
+unfoldable pub markPlaceTest : ℕ → List ℕ → Position → ℕ → Verdict
+markPlaceTest n masks p words = need (fitsIn p n masks) 23 0 then (need (ltb (p .plays) n) 22 0 then roomTest n words)
 
 -- Over a problem P: the winning values of the next variable, under every set, and its domain; the room as judging leaves it.
 module _ (P : Problem) (p : Position) (set : ℕ) where
@@ -47,7 +52,15 @@ module _ (f : List ℕ) (p : Position) (set : ℕ) where
   unfoldable pub markLeft : List ℕ → List ℕ
   markLeft room = readFirst f (λ e q. room) (λ P. markRoom P p set room)
 
--- Over the arrays of a problem: the reply r, and the room from w to w'.
+-- Over the arrays of a problem, where the test gives v: the reply r, and the room from w to w', by searches under this very set.
+abbrev pub MarksBy : Verdict → (n universal : ℕ) (near index rows masks : List ℕ) (p : Position) (set : ℕ) (w w' : List ℕ) (r : Marked) → Type 0
+MarksBy v n universal near index rows masks p set w w' r =
+    (P : Problem) → Poses P n universal near index rows masks
+    → (told r ≡ repliedFor v (markedValues P set (playsOf p) ∷ getD (P .domain) (p .plays) 0 ∷ [])) × (w' ≡ listFor v (zeroed 0 (roomNeeded n) w) w)
+
+-- By the tests behind the rule set's, and by all.
+abbrev pub MarksWith : (n universal : ℕ) (near index rows masks : List ℕ) (p : Position) (set : ℕ) (w w' : List ℕ) (r : Marked) → Type 0
+MarksWith n universal near index rows masks p set w w' r = MarksBy (markPlaceTest n masks p (length w)) n universal near index rows masks p set w w' r
+
 abbrev pub MarksIn : (n universal : ℕ) (near index rows masks : List ℕ) (p : Position) (set : ℕ) (w w' : List ℕ) (r : Marked) → Type 0
-MarksIn n universal near index rows masks p set w w' r =
-    (P : Problem) → Poses P n universal near index rows masks → (told r ≡ markReply P p set (length w)) × (w' ≡ markRoom P p set w)
+MarksIn n universal near index rows masks p set w w' r = MarksBy (markTest n masks p set (length w)) n universal near index rows masks p set w w' r

@@ -4,17 +4,19 @@ ghost use Prim.Native.Nat.{_≤_};
 ghost use lib.ListN.{length};
 ghost use Rattle.arrays.specs.Arrays.{InRange};
 ghost use Rattle.search_run.specs.Run.{Posed};
-ghost use Rattle.marking.specs.Marking.{told, markTest, markTold, markLeft, MarksIn};
+ghost use Rattle.marking.specs.Marking.{told, markPlaceTest, markTold, markLeft, MarksWith, MarksIn};
 
 mod values;
 
-use judging::position_test;
 use judging::room_test;
 use position::Position;
+use position::fits;
 use problem_file::Header;
 use refusal::Verdict;
 use refusal::first;
 use refusal::needed;
+use rule_set::Chosen;
+use rule_set::RuleSet;
 use tables::decode;
 use values::winning_values;
 
@@ -26,18 +28,43 @@ pub enum Marked {
     RefusedAt(u8, usize),
 }
 
-// The tests of marking: 8, 23, 22, 12.
-fn mark_test(n: usize, domains: &[u16; 32], p: Position, set: usize, words: usize) -> Verdict
+// The tests of marking behind the rule set: 23, 22, 12.
+fn mark_test(n: usize, domains: &[u16; 32], p: Position, words: usize) -> Verdict
     requires { ⌜ n ≤ 32 ⌝ }
-    ensures { λ r. ⌜ r ≡ markTest n (now (domains .entry)) p set words ⌝ }
+    ensures { λ r. ⌜ r ≡ markPlaceTest n (now (domains .entry)) p words ⌝ }
 {
-    let s = position_test(n, domains, p, set);
+    let s = needed(fits(p, n, domains), 23, 0);
     let t = needed(p.plays < n, 22, 0);
     let u = room_test(n, words);
     first(s, first(t, u))
 }
 
-// Marks over the arrays of a problem.
+// Marks under a rule set over the arrays of a problem.
+fn mark_with(
+    near: &[u32; 32],
+    index: &[u16; 1024],
+    rows: &[u16; 15888],
+    n: usize,
+    universal: u32,
+    domains: &[u16; 32],
+    p: Position,
+    set: RuleSet,
+    room: &mut [u16],
+) -> Marked
+    requires { ⌜ (n ≤ 32) × InRange (now index) × Posed n universal (now near) (now index) (now rows) (now domains) ⌝ }
+    ensures { λ r. ⌜ MarksWith n universal (now (near .entry)) (now (index .entry)) (now (rows .entry)) (now (domains .entry)) p (set .bits) (now (room .entry)) (now (room .exit)) r ⌝ }
+{
+    let v = mark_test(n, domains, p, room.len());
+    match v {
+        Verdict::Refused(number, _) => Marked::Refused(number),
+        Verdict::Fine => {
+            let m = winning_values(near, index, rows, n, universal, domains, set, p, room);
+            Marked::Values(m.winning, m.domain)
+        }
+    }
+}
+
+// Marks under the rule set of this number.
 fn mark_in(
     near: &[u32; 32],
     index: &[u16; 1024],
@@ -52,12 +79,11 @@ fn mark_in(
     requires { ⌜ (n ≤ 32) × InRange (now index) × Posed n universal (now near) (now index) (now rows) (now domains) ⌝ }
     ensures { λ r. ⌜ MarksIn n universal (now (near .entry)) (now (index .entry)) (now (rows .entry)) (now (domains .entry)) p set (now (room .entry)) (now (room .exit)) r ⌝ }
 {
-    let v = mark_test(n, domains, p, set, room.len());
-    match v {
-        Verdict::Refused(number, _) => Marked::Refused(number),
-        Verdict::Fine => {
-            let m = winning_values(near, index, rows, n, universal, domains, set as u8, p, room);
-            Marked::Values(m.winning, m.domain)
+    let c = RuleSet::new(set);
+    match c {
+        Chosen::Refused(number) => Marked::Refused(number),
+        Chosen::Set(s) => {
+            mark_with(near, index, rows, n, universal, domains, p, s, room)
         }
     }
 }

@@ -14,6 +14,7 @@ use mask::rest_of;
 use mask::single;
 use position::Position;
 use position::pushed;
+use rule_set::RuleSet;
 use search_run::run;
 
 // The winning values of a position's next variable, and its domain.
@@ -30,13 +31,13 @@ fn wins_with(
     n: usize,
     universal: u32,
     domains: &[u16; 32],
-    set: u8,
+    set: RuleSet,
     p: Position,
     a: usize,
     room: &mut [u16],
 ) -> bool
     requires { ⌜ (n ≤ 32) × (p .plays < n) × (a < 16) × T (bit (getD (now domains) (p .plays) 0) a) × T (fitsIn p n (now domains)) × (roomNeeded n ≤ length (now room)) × InRange (now index) × Posed n universal (now near) (now index) (now rows) (now domains) ⌝ }
-    ensures { λ r. ⌜ WinsWith n universal (now (near .entry)) (now (index .entry)) (now (rows .entry)) (now (domains .entry)) set p a r × (now (room .exit) ≡ zeroed 0 (roomNeeded n) (now (room .entry))) ⌝ }
+    ensures { λ r. ⌜ WinsWith n universal (now (near .entry)) (now (index .entry)) (now (rows .entry)) (now (domains .entry)) (set .bits) p a r × (now (room .exit) ≡ zeroed 0 (roomNeeded n) (now (room .entry))) ⌝ }
 {
     run(
         near,
@@ -75,12 +76,12 @@ pub fn winning_values(
     n: usize,
     universal: u32,
     domains: &[u16; 32],
-    set: u8,
+    set: RuleSet,
     p: Position,
     room: &mut [u16],
 ) -> Marks
     requires { ⌜ (n ≤ 32) × (p .plays < n) × T (fitsIn p n (now domains)) × (roomNeeded n ≤ length (now room)) × InRange (now index) × Posed n universal (now near) (now index) (now rows) (now domains) ⌝ }
-    ensures { λ r. ⌜ Wins n universal (now (near .entry)) (now (index .entry)) (now (rows .entry)) (now (domains .entry)) set p (r .winning) (r .domain) × (now (room .exit) ≡ zeroed 0 (roomNeeded n) (now (room .entry))) ⌝ }
+    ensures { λ r. ⌜ Wins n universal (now (near .entry)) (now (index .entry)) (now (rows .entry)) (now (domains .entry)) (set .bits) p (r .winning) (r .domain) × (now (room .exit) ≡ zeroed 0 (roomNeeded n) (now (room .entry))) ⌝ }
 {
     let d = p.plays;
     let m = next_domain(domains, d);

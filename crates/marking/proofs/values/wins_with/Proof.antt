@@ -7,7 +7,7 @@ use borrow.Author.Needs.{needs}
 use Rattle.game.specs.Search.{is-solved, searchFrom}
 use Rattle.position.specs.declared.Position.{Position}
 use Rattle.position.specs.Position.{playsOf, fitsIn}
-use Rattle.marking.proofs.PlayedLaws.{plays-pushed, pushed-fits, won-is}
+use Rattle.marking.proofs.PlayedLaws.{plays-pushed, pushed-fits}
 use Rattle.marking.proofs.values.wins_with.Statement.{statement}
 use Rattle.marking.proofs.values.wins_with.Tie as tie
 
@@ -36,8 +36,8 @@ returns c =
     let s = c .before .before .before .before .before .before in
     let p = s .pre in
     let r = c .before .before .run .ensures in (
-      λ P o. won-is _ _ _ _ (r .0 P o .outcome)
-          ∙ ap (λ (l : List ℕ). is-solved (searchFrom P (s .args .set) l)) (ap playsOf (c .before .before .before .before .pushed .ensures) ∙ plays-pushed _ _ _ (p .4) (p .0) (long s) (p .1) _),
+      λ P o. r .0 P o .won
+          ∙ ap (λ (l : List ℕ). is-solved (searchFrom P (s .args .set .bits) l)) (ap playsOf (c .before .before .before .before .pushed .ensures) ∙ plays-pushed _ _ _ (p .4) (p .0) (long s) (p .1) _),
       r .1,
     )
 
