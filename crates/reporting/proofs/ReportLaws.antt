@@ -17,16 +17,16 @@ use Rattle.refusal.specs.Told.{Told, replied, refused, refusedAt}
 use Rattle.refusal.proofs.Chain.{then-ok, need-ok}
 use Rattle.rule_set.specs.RuleSet.{isRuleSet, fullSet}
 use Rattle.file_layout.specs.declared.Rules.{Rules}
-use Rattle.file_layout.specs.Layout.{nOf, rulesOf, variablesAt}
+use Rattle.file_layout.specs.Layout.{rulesOf}
 use Rattle.file_records.specs.Records.{verdictOf}
 use Rattle.rule_set.proofs.RuleSetLaws.{set-most}
 use Rattle.problem_file.specs.Used.{rulesUsed}
-use Rattle.problem_file.proofs.Accepted.{Shows, accepted, read-universal}
+use Rattle.problem_file.proofs.Accepted.{Shows, accepted, universal-shown}
 use Rattle.problem_file.proofs.UsedLaws.{used-set}
 use Rattle.game.specs.Problem.{Problem}
 use Rattle.game.specs.Winning.{verdict, winningValues}
 use Rattle.theory.proofs.TurnLists.{legal-in}
-use Rattle.tables.specs.FileProblem.{problemOf, universalOf}
+use Rattle.tables.specs.FileProblem.{problemOf}
 use Rattle.rules.proofs.ReadLaws.{read-refused, read-fine}
 use Rattle.position.specs.declared.Position.{Position}
 use Rattle.position.specs.Position.{shown, playsOf, fitsIn}
@@ -145,9 +145,9 @@ reply-same n m set universal e g h = rw (e, g, h)
 -- The text of an accepted file by the reading's numbers.
 accepted-text : (f : List ℕ) (n m : ℕ) (rules : Rules) (u : ℕ) (s : Shows f n m rules u) (set : ℕ) (universal : Bool) → set ≡ rulesUsed rules → universal ≡ bit u 0
     → replyText n m set (verdict (problemOf f (s .fine)) []) 0 universal (getD (problemOf f (s .fine) .domain) 0 0) (winningValues (problemOf f (s .fine)) []) ≡ reportOf f
-unfolding reportOf problemText problemOf universalOf
+unfolding reportOf problemText problemOf
 accepted-text f n m rules u s set universal e g =
-    rw (e, s .set, s .variables, s .constraints, g, s .bits, read-universal f (variablesAt f) (nOf f) 0 (accepted f (s .fine) .head .counts .some)) (sym (read-fine f _ _ (s .fine)))
+    rw (e, s .set, s .variables, s .constraints, g, s .bits, universal-shown f 0 (accepted f (s .fine) .head .counts .some)) (sym (read-fine f _ _ (s .fine)))
 
 pub accepted-holds : (f : List ℕ) (n m : ℕ) (rules : Rules) (u : ℕ) → Shows f n m rules u → (set : ℕ) (universal : Bool) → set ≡ rulesUsed rules → universal ≡ bit u 0
     → (l : List ℕ) (r : ℕ) (l' : List ℕ) → ReportsAccepted f n m set universal l r l' → Holds (reportOf f) l r l'

@@ -9,8 +9,9 @@ use Rattle.refusal.specs.Chain.{_then_, need, only}
 use Rattle.file_layout.specs.Numbers.{countsFit, inOrder, pairOf, rowFits, rowsFit, constraintFits}
 use Rattle.file_layout.specs.Layout.{word, marked, opened, rulesOf, variablesAt, domainAt, universalAt, rowAt, pairAt, constraintsAt}
 use Rattle.file_records.specs.Records.{qpTest, rsTest, variableTest as variableFine, variablesTest, constraintTest, lastPair, constraintsTest, enTest, restTest, verdictOf}
-use Rattle.problem_file.specs.Reading.{ruleNumbers, headerNumbers, universalBits, headerFor, headerOf}
+use Rattle.problem_file.specs.Reading.{ruleNumbers, headerNumbers, domainOf, universalOf, universalBits, headerFor, headerOf}
 use Rattle.pair_lookup.specs.Lookup.{placeTo, placeOf, lookFor, lookUp, rowsAt}
+use Rattle.file_constraints.specs.Pairs.{found, allows}
 use Rattle.game.specs.Game.{put, turn, satisfied, won, wins}
 use Rattle.game.specs.Lists.{domains, listOf, masksOf, within, mayLend, winsOver}
 use Rattle.game.specs.Position.{narrowed, position}
@@ -21,7 +22,6 @@ use Rattle.game.specs.Support.{clashes, alone, empty}
 use Rattle.game.specs.Arc.{dead, barred, arcLoss, sweep, swept, arc}
 use Rattle.game.specs.Pure.{isPure, pure}
 use Rattle.game.specs.Interchangeable.{interchange, representatives, interchangeable}
-use Rattle.tables.specs.FileProblem.{domainOf, universalOf, found, allows}
 use Rattle.rules.specs.Lend.{listTest, variableTest}
 use Rattle.rules.specs.Alone.{lossFor, maskFor, listFor, arcReply, arcList, pureReply, interchangeableReply}
 use Rattle.session.specs.Opening.{spread}
