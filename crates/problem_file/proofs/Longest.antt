@@ -1,14 +1,15 @@
--- The longest file, and that nothing which stands further behind decides anything.
+-- The longest file; what stands further behind decides nothing.
 use Prim.Native.Nat.{ℕ, _≤_}
 use mathlib.Core.Path.{_≡_, refl, sym, ap, _∙_}
 use mathlib.Core.List.{List}
-use lib.ListN.{length, take}
+use lib.ListN.{length, take, replicate}
 use lib.Seq.{take-all}
 use native.Mathlib.Nat.{le-refl}
 use native.Mathlib.Omega.{arith}
 use Rattle.refusal.specs.declared.Verdict.{Verdict}
 use Rattle.refusal.specs.declared.Verdict.the-variants.{Fine}
 use Rattle.refusal.specs.declared.Verdict.the-variants.{Refused as Not}
+use Rattle.refusal.specs.Told.{refusedAt}
 use Rattle.file_layout.specs.Layout.{nOf, mOf}
 use Rattle.file_layout.proofs.NumberLaws.{constraints-most}
 use Rattle.file_layout.proofs.LayoutLaws.{start-most}
@@ -24,7 +25,7 @@ longest f q =
     let a = accepted f q in
     omega (arith, file-length f a, start-most f, a .head .counts .most, constraints-most (nOf f) (mOf f) (a .head .counts))
 
--- The first 17,995 bytes of any list decide as the whole does: number and place of the refusal are the same.
+-- The first 17,995 bytes of any list are accepted or refused as the whole is, with the same number and place.
 pub long-tail : (f : List ℕ) → verdictOf (take 17995 f) ≡ verdictOf f
 long-tail f = verdict-front 17995 (take 17995 f) f (take-front 17995 f) (le-refl 17995)
 
@@ -32,19 +33,19 @@ long-tail f = verdict-front 17995 (take 17995 f) f (take-front 17995 f) (le-refl
 pub front-whole : (f : List ℕ) → verdictOf f ≡ Fine → take 17995 f ≡ f
 front-whole f q = take-all 17995 f (omega (arith, longest f q))
 
--- So the reader's whole reply is theirs.
+-- So every reply that is number and place alone of a refused file is that of the first 17,995 bytes: the reader's header, and its domains.
+pub reply-tail : {A : Type 0} (reply : List ℕ → A) (refusal : ℕ → ℕ → A) → ((f : List ℕ) (e p : ℕ) → verdictOf f ≡ Not e p → reply f ≡ refusal e p) →
+    (f : List ℕ) → reply (take 17995 f) ≡ reply f
+reply-tail {A} reply refusal refuses f = go (verdictOf f) refl
+  where
+    go : (v : Verdict) → verdictOf f ≡ v → reply (take 17995 f) ≡ reply f
+    go Fine q = ap reply (front-whole f q)
+    go (Not e p) q = refuses (take 17995 f) e p (long-tail f ∙ q) ∙ sym (refuses f e p q)
+
 pub header-tail : (f : List ℕ) → headerOf (take 17995 f) ≡ headerOf f
 unfolding headerFor
-header-tail f = go (verdictOf f) refl
-  where
-    go : (v : Verdict) → verdictOf f ≡ v → headerOf (take 17995 f) ≡ headerOf f
-    go Fine q = ap headerOf (front-whole f q)
-    go (Not e p) q = header-is (take 17995 f) (Not e p) (long-tail f ∙ q) ∙ sym (header-is f (Not e p) q)
+header-tail = reply-tail headerOf refusedAt (λ f e p q. header-is f (Not e p) q)
 
 pub domains-tail : (f : List ℕ) → domainsOf (take 17995 f) ≡ domainsOf f
 unfolding domainsFor
-domains-tail f = go (verdictOf f) refl
-  where
-    go : (v : Verdict) → verdictOf f ≡ v → domainsOf (take 17995 f) ≡ domainsOf f
-    go Fine q = ap domainsOf (front-whole f q)
-    go (Not e p) q = domains-is (take 17995 f) (Not e p) (long-tail f ∙ q) ∙ sym (domains-is f (Not e p) q)
+domains-tail = reply-tail domainsOf (λ e p. replicate 32 0) (λ f e p q. domains-is f (Not e p) q)

@@ -1,4 +1,4 @@
--- f is the file of some numbers that the writer takes.
+-- Which lists are files, by the numbers that the writer is handed.
 use Prim.Native.Nat.{ℕ}
 use mathlib.Core.Path.{_≡_}
 use mathlib.Core.List.{List}
@@ -8,7 +8,7 @@ use Rattle.file_layout.specs.declared.Rules.{Rules}
 use Rattle.file_bytes.specs.Bytes.{bytesOf, numbersIn}
 use Rattle.problem_writer.specs.Tests.{writeTest}
 
--- The writer's tests are fine with a buffer as long as f.
+-- f is the file of some numbers that the writer takes: its tests are fine, with a buffer as long as f.
 pub record Writes (f : List ℕ) : Type 0 where
   pub n : ℕ
   pub m : ℕ
