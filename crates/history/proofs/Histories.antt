@@ -19,7 +19,6 @@ use Rattle.game.specs.Winning.{winningValues}
 use Rattle.theory.proofs.Standing.{standing-legal}
 use Rattle.tables.specs.FileProblem.{problemOf}
 use Rattle.tables.proofs.FileLaws.{most}
-use Rattle.rules.specs.Alone.{Bytes}
 use Rattle.rules.proofs.ReadLaws.{read-fine}
 use Rattle.position.specs.declared.Position.{Position}
 use Rattle.position.specs.Position.{shown, playsOf, fitsIn}
@@ -33,9 +32,9 @@ use Rattle.judging.specs.Judging.{repliedFor}
 use Rattle.marking.specs.Marking.{markTest, markReply, markTold}
 use Rattle.history.specs.Replay.{listMarked, Demand3}
 
-module _ (f : List ℕ) (bytes : Bytes f) (fine : verdictOf f ≡ Fine) where
+module _ (f : List ℕ) (fine : verdictOf f ≡ Fine) where
   abbrev P : Problem
-  P = problemOf f bytes fine
+  P = problemOf f fine
 
   few : P .n ≤ 32
   unfolding problemOf
@@ -51,12 +50,12 @@ module _ (f : List ℕ) (bytes : Bytes f) (fine : verdictOf f ≡ Fine) where
   marks-by l set words s r t true e = rw (le-leb set fullSet s, fits l t, e, le-leb (roomNeeded (P .n)) words r, plays-shown l)
   marks-by l set words s r t false e = rw (le-leb set fullSet s, fits l t, e)
 
-  marks-told : (l : List ℕ) (set words : ℕ) → set ≤ fullSet → roomNeeded (P .n) ≤ words → T (legal P l) → markTold f bytes (shown l) set words ≡ listMarked P l
+  marks-told : (l : List ℕ) (set words : ℕ) → set ≤ fullSet → roomNeeded (P .n) ≤ words → T (legal P l) → markTold f (shown l) set words ≡ listMarked P l
   unfolding markTold markReply shown
-  marks-told l set words s r t = read-fine f bytes _ _ fine ∙ marks-by l set words s r t (ltb (length l) (P .n)) refl
+  marks-told l set words s r t = read-fine f _ _ fine ∙ marks-by l set words s r t (ltb (length l) (P .n)) refl
 
-  pub demand-3 : (calls : List Call) (set words : ℕ) → Demand3 f bytes fine calls set words (markTold f bytes (reachedBy f bytes calls) set words) (openTold f bytes (reachedBy f bytes calls))
+  pub demand-3 : (calls : List Call) (set words : ℕ) → Demand3 f fine calls set words (markTold f (reachedBy f calls) set words) (openTold f (reachedBy f calls))
   demand-3 calls set words = (
-    λ s r. ap (λ (p : Position). markTold f bytes p set words) (reached-shows f bytes fine calls) ∙ marks-told (standing P calls) set words s r (standing-legal P calls),
-    reached-opens f bytes fine calls,
+    λ s r. ap (λ (p : Position). markTold f p set words) (reached-shows f fine calls) ∙ marks-told (standing P calls) set words s r (standing-legal P calls),
+    reached-opens f fine calls,
   )

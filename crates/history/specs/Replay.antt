@@ -13,7 +13,6 @@ use Rattle.game.specs.Problem.{Problem}
 use Rattle.game.specs.Calls.{Call, play, takeBack, standing}
 use Rattle.game.specs.Winning.{winningValues}
 use Rattle.tables.specs.FileProblem.{problemOf}
-use Rattle.rules.specs.Alone.{Bytes}
 use Rattle.search_run.specs.Run.{roomNeeded}
 use Rattle.session.specs.History.{listOpened}
 
@@ -32,8 +31,8 @@ listMarked P l = cond (ltb (length l) (P .n)) (replied (winningValues P l ∷ ge
 
 -- The replies `marks` and `opened` are those of a fresh problem with only the plays that stand after the calls by the plain list, in order; the same
 -- marks under every rule set, given the room that a marking takes.
-abbrev pub Demand3 : (f : List ℕ) (bytes : Bytes f) (fine : verdictOf f ≡ Fine) (calls : List Call) (set words : ℕ) (marks opened : Told) → Type 0
-Demand3 f bytes fine calls set words marks opened =
-    let P = problemOf f bytes fine in
+abbrev pub Demand3 : (f : List ℕ) (fine : verdictOf f ≡ Fine) (calls : List Call) (set words : ℕ) (marks opened : Told) → Type 0
+Demand3 f fine calls set words marks opened =
+    let P = problemOf f fine in
     let l = standing P calls in
     (set ≤ fullSet → roomNeeded (P .n) ≤ words → marks ≡ listMarked P l) × (opened ≡ listOpened P l)

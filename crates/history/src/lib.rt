@@ -5,8 +5,7 @@ ghost use mathlib.Core.Path.{_≡_};
 ghost use lib.ListN.{length};
 ghost use Rattle.refusal.specs.declared.Verdict.the-variants.{Fine};
 ghost use Rattle.file_records.specs.Records.{verdictOf};
-ghost use Rattle.rules.specs.Alone.{Bytes};
-ghost use Rattle.session.specs.Told.{toldOpened, openTold};
+ghost use Rattle.session.specs.Told.{toldOpened, openTold, masksShown, countsShown};
 ghost use Rattle.session.specs.History.{step, reachedFrom, reachedBy};
 ghost use Rattle.marking.specs.Marking.{told, markTold, markLeft};
 ghost use Rattle.history.specs.Replay.{callOf, callsOf, Demand3};
@@ -27,7 +26,7 @@ pub struct Replayed {
 
 // The position that the call returned or left. A byte 255 is a take-back, any other a play of that value.
 fn called(f: &[u8], p: Position, call: u8) -> Position
-    ensures { λ r. ⌜ ((bytes : Bytes (now (f .entry))) → r ≡ step (now (f .entry)) bytes p (callOf call)) ⌝ }
+    ensures { λ r. ⌜ r ≡ step (now (f .entry)) p (callOf call) ⌝ }
 {
     if call == 255 {
         let t = take_back(f, p);
@@ -40,7 +39,7 @@ fn called(f: &[u8], p: Position, call: u8) -> Position
 
 // The position that the calls reach from another.
 fn reached(f: &[u8], start: Position, calls: &[u8]) -> Position
-    ensures { λ r. ⌜ ((bytes : Bytes (now (f .entry))) → r ≡ reachedFrom (now (f .entry)) bytes start (callsOf (now (calls .entry)))) ⌝ }
+    ensures { λ r. ⌜ r ≡ reachedFrom (now (f .entry)) start (callsOf (now (calls .entry))) ⌝ }
 {
     let mut p = start;
     let mut i = 0;
@@ -54,10 +53,11 @@ fn reached(f: &[u8], start: Position, calls: &[u8]) -> Position
 // Runs the calls, each a byte, and replies the marks and the open values reached, under the rule set of this number. The
 // room is left as by marking.
 pub fn replay(f: &[u8], calls: &[u8], set: usize, room: &mut [u16]) -> Replayed
-    ensures { λ r. ⌜ ((bytes : Bytes (now (f .entry))) → told (r .marks) ≡ markTold (now (f .entry)) bytes (reachedBy (now (f .entry)) bytes (callsOf (now (calls .entry)))) set (length (now (room .entry)))) ⌝ }
-    ensures { λ r. ⌜ ((bytes : Bytes (now (f .entry))) → toldOpened (r .opened) ≡ openTold (now (f .entry)) bytes (reachedBy (now (f .entry)) bytes (callsOf (now (calls .entry))))) ⌝ }
-    ensures { λ r. ⌜ ((bytes : Bytes (now (f .entry))) → now (room .exit) ≡ markLeft (now (f .entry)) bytes (reachedBy (now (f .entry)) bytes (callsOf (now (calls .entry)))) set (now (room .entry))) ⌝ }
-    ensures { λ r. ⌜ ((bytes : Bytes (now (f .entry))) (fine : verdictOf (now (f .entry)) ≡ Fine) → Demand3 (now (f .entry)) bytes fine (callsOf (now (calls .entry))) set (length (now (room .entry))) (told (r .marks)) (toldOpened (r .opened))) ⌝ }
+    ensures { λ r. ⌜ told (r .marks) ≡ markTold (now (f .entry)) (reachedBy (now (f .entry)) (callsOf (now (calls .entry)))) set (length (now (room .entry))) ⌝ }
+    ensures { λ r. ⌜ toldOpened (r .opened) ≡ openTold (now (f .entry)) (reachedBy (now (f .entry)) (callsOf (now (calls .entry)))) ⌝ }
+    ensures { λ r. ⌜ (r .opened .masks ≡ masksShown (now (f .entry)) (reachedBy (now (f .entry)) (callsOf (now (calls .entry))))) × (r .opened .counts ≡ countsShown (now (f .entry)) (reachedBy (now (f .entry)) (callsOf (now (calls .entry))))) ⌝ }
+    ensures { λ r. ⌜ now (room .exit) ≡ markLeft (now (f .entry)) (reachedBy (now (f .entry)) (callsOf (now (calls .entry)))) set (now (room .entry)) ⌝ }
+    ensures { λ r. ⌜ ((fine : verdictOf (now (f .entry)) ≡ Fine) → Demand3 (now (f .entry)) fine (callsOf (now (calls .entry))) set (length (now (room .entry))) (told (r .marks)) (toldOpened (r .opened))) ⌝ }
 {
     let start = fresh();
     let p = reached(f, start, calls);

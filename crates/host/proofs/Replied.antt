@@ -23,7 +23,6 @@ use Rattle.game.specs.Problem.{Problem}
 use Rattle.game.specs.Winning.{verdict, winningValues}
 use Rattle.tables.specs.FileProblem.{problemOf}
 use Rattle.tables.proofs.FileLaws.{problem-size}
-use Rattle.rules.specs.Alone.{Bytes}
 use Rattle.rules.proofs.ReadLaws.{read-fine}
 use Rattle.position.specs.declared.Position.{Position}
 use Rattle.position.specs.Position.{playsOf, fitsIn}
@@ -55,30 +54,30 @@ room-held : (n : ℕ) → n ≤ 32 → roomTest n heldRoom ≡ Fine
 unfolding roomTest
 room-held n h = need-ok _ _ _ (le-leb (roomNeeded n) heldRoom (omega arith))
 
-module _ (f : List ℕ) (bytes : Bytes f) (fine : verdictOf f ≡ Fine) (plays a b c d set : ℕ) where
+module _ (f : List ℕ) (fine : verdictOf f ≡ Fine) (plays a b c d set : ℕ) where
   abbrev pub P : Problem
-  P = problemOf f bytes fine
+  P = problemOf f fine
 
   abbrev pub p : Position
   p = unpack plays a b c d
 
   -- The replies of the entries.
   abbrev pub judged : Judgement
-  judged = judgementOf (judgeTold f bytes p set heldRoom)
+  judged = judgementOf (judgeTold f p set heldRoom)
 
   abbrev pub marked : Marks
-  marked = marksOf (markTold f bytes p set heldRoom)
+  marked = marksOf (markTold f p set heldRoom)
 
   size : P .n ≤ 32
-  size = omega (arith, problem-size f fine bytes, accepted f fine .head .counts .most)
+  size = omega (arith, problem-size f fine, accepted f fine .head .counts .most)
 
-  judge-by : (v : Verdict) → judgeTest (P .n) (P .domain) p set heldRoom ≡ v → judgeTold f bytes p set heldRoom ≡ repliedFor v (cond (verdict P (playsOf p)) 1 0 ∷ [])
+  judge-by : (v : Verdict) → judgeTest (P .n) (P .domain) p set heldRoom ≡ v → judgeTold f p set heldRoom ≡ repliedFor v (cond (verdict P (playsOf p)) 1 0 ∷ [])
   unfolding judgeTold judgeReply
-  judge-by v e = read-fine f bytes refusedAt (λ P. judgeReply P p set heldRoom) fine ∙ rw e refl
+  judge-by v e = read-fine f refusedAt (λ P. judgeReply P p set heldRoom) fine ∙ rw e refl
 
-  mark-by : (v : Verdict) → markTest (P .n) (P .domain) p set heldRoom ≡ v → markTold f bytes p set heldRoom ≡ repliedFor v (winningValues P (playsOf p) ∷ getD (P .domain) (p .plays) 0 ∷ [])
+  mark-by : (v : Verdict) → markTest (P .n) (P .domain) p set heldRoom ≡ v → markTold f p set heldRoom ≡ repliedFor v (winningValues P (playsOf p) ∷ getD (P .domain) (p .plays) 0 ∷ [])
   unfolding markTold markReply
-  mark-by v e = read-fine f bytes refusedAt (λ P. markReply P p set heldRoom) fine ∙ rw e refl
+  mark-by v e = read-fine f refusedAt (λ P. markReply P p set heldRoom) fine ∙ rw e refl
 
   -- A rule set above 127.
   pub wide-rules : fullSet < set → (judged ≡ record { kind = 1; number = 8; place = 0; won = 0 }) × (marked ≡ record { kind = 1; number = 8; place = 0; winning = 0; domain = 0 })
@@ -91,7 +90,7 @@ module _ (f : List ℕ) (bytes : Bytes f) (fine : verdictOf f ≡ Fine) (plays a
   pub many-plays : set ≤ fullSet → nOf f < plays → (judged ≡ record { kind = 1; number = 23; place = 0; won = 0 }) × (marked ≡ record { kind = 1; number = 23; place = 0; winning = 0; domain = 0 })
   unfolding judgeTest markTest unpack repliedFor judgementOf marksOf kindOf numberOf placeOf valueOf
   many-plays h k =
-      let r = plays-refused (P .n) (P .domain) p set h (omega (arith, problem-size f fine bytes)) in
+      let r = plays-refused (P .n) (P .domain) p set h (omega (arith, problem-size f fine)) in
       (ap judgementOf (judge-by (Not 23 0) (stop _ _ 23 0 r)), ap marksOf (mark-by (Not 23 0) (stop _ _ 23 0 r)))
 
   -- Every position that fits is judged.
@@ -105,4 +104,4 @@ module _ (f : List ℕ) (bytes : Bytes f) (fine : verdictOf f ≡ Fine) (plays a
   unfolding markTest unpack repliedFor marksOf kindOf numberOf placeOf valueOf
   marks h t k =
       ap marksOf
-      (mark-by Fine (then-ok _ _ (position-taken (P .n) (P .domain) p set h t) (then-ok _ _ (need-ok _ _ _ (lt-ltb plays (P .n) (omega (arith, problem-size f fine bytes)))) (room-held (P .n) size))))
+      (mark-by Fine (then-ok _ _ (position-taken (P .n) (P .domain) p set h t) (then-ok _ _ (need-ok _ _ _ (lt-ltb plays (P .n) (omega (arith, problem-size f fine)))) (room-held (P .n) size))))

@@ -2,7 +2,6 @@
 // bits wide, and room of their own. Open to callers; none has a `requires`, since nothing checks a C caller.
 ghost use mathlib.Core.Path.{_≡_};
 ghost use Rattle.problem_file.specs.Reading.{headerOf, domainsOf};
-ghost use Rattle.rules.specs.Alone.{Bytes};
 ghost use Rattle.judging.specs.Judging.{judgeTold};
 ghost use Rattle.marking.specs.Marking.{markTold};
 ghost use Rattle.host.specs.Unpack.{unpack};
@@ -44,7 +43,7 @@ pub extern "C" fn kb_judge(
     d: u64,
     set: u64,
 ) -> Judgement
-    ensures { λ r. ⌜ ((bytes : Bytes (now (f .entry))) → r ≡ judgementOf (judgeTold (now (f .entry)) bytes (unpack plays a b c d) set heldRoom)) ⌝ }
+    ensures { λ r. ⌜ r ≡ judgementOf (judgeTold (now (f .entry)) (unpack plays a b c d) set heldRoom) ⌝ }
 {
     let mut room = [0u16; 4224];
     let p = unpacked(plays, a, b, c, d);
@@ -54,7 +53,7 @@ pub extern "C" fn kb_judge(
 // The winning values of the next variable, under the rule set of this number.
 #[no_mangle]
 pub extern "C" fn kb_mark(f: &[u8], plays: u64, a: u64, b: u64, c: u64, d: u64, set: u64) -> Marks
-    ensures { λ r. ⌜ ((bytes : Bytes (now (f .entry))) → r ≡ marksOf (markTold (now (f .entry)) bytes (unpack plays a b c d) set heldRoom)) ⌝ }
+    ensures { λ r. ⌜ r ≡ marksOf (markTold (now (f .entry)) (unpack plays a b c d) set heldRoom) ⌝ }
 {
     let mut room = [0u16; 4224];
     let p = unpacked(plays, a, b, c, d);

@@ -25,7 +25,6 @@ use Rattle.game.specs.Problem.{Problem}
 use Rattle.game.specs.Winning.{verdict, winningValues}
 use Rattle.theory.proofs.TurnLists.{legal-in}
 use Rattle.tables.specs.FileProblem.{problemOf, universalOf}
-use Rattle.rules.specs.Alone.{Bytes}
 use Rattle.rules.proofs.ReadLaws.{read-refused, read-fine}
 use Rattle.position.specs.declared.Position.{Position}
 use Rattle.position.specs.Position.{shown, playsOf, fitsIn}
@@ -101,9 +100,9 @@ marks-in (Values w d) = refl
 marks-in (NoValues e) = refl
 marks-in (NoValuesAt e p) = refl
 
-module _ (f : List ℕ) (bytes : Bytes f) (fine : verdictOf f ≡ Fine) (p : Position) (set words : ℕ) (fresh : p ≡ shown []) (long : words ≡ 4224) (rules : set ≤ fullSet) where
+module _ (f : List ℕ) (fine : verdictOf f ≡ Fine) (p : Position) (set words : ℕ) (fresh : p ≡ shown []) (long : words ≡ 4224) (rules : set ≤ fullSet) where
   abbrev P : Problem
-  P = problemOf f bytes fine
+  P = problemOf f fine
 
   few : P .n ≤ 32
   unfolding problemOf
@@ -113,22 +112,22 @@ module _ (f : List ℕ) (bytes : Bytes f) (fine : verdictOf f ≡ Fine) (p : Pos
   unfolding problemOf
   some = accepted f fine .head .counts .some
 
-  pub won-first : (j : Judged) → told j ≡ judgeTold f bytes p set words → wonBy j ≡ verdict P []
+  pub won-first : (j : Judged) → told j ≡ judgeTold f p set words → wonBy j ≡ verdict P []
   unfolding judgeTold judgeReply repliedFor playsOf shown
   won-first j e =
       won-says j
       ∙ ap saysOne
       (e
-      ∙ read-fine f bytes _ _ fine
+      ∙ read-fine f _ _ fine
       ∙ rw (fresh, long) (ap (λ (v : Verdict). repliedFor v (cond (verdict P []) 1 0 ∷ [])) (fresh-judge P set few rules)))
       ∙ one-says (verdict P [])
 
-  pub marks-first : (k : Marked) → toldMarks k ≡ markTold f bytes p set words → marksBy k ≡ record { winning = winningValues P []; domain = getD (P .domain) 0 0 }
+  pub marks-first : (k : Marked) → toldMarks k ≡ markTold f p set words → marksBy k ≡ record { winning = winningValues P []; domain = getD (P .domain) 0 0 }
   unfolding markTold markReply repliedFor playsOf shown masksIn
   marks-first k e =
       let t : toldMarks k ≡ replied (winningValues P [] ∷ getD (P .domain) 0 0 ∷ []) =
       e
-      ∙ read-fine f bytes _ _ fine
+      ∙ read-fine f _ _ fine
       ∙ rw (fresh, long) (ap (λ (v : Verdict). repliedFor v (winningValues P [] ∷ getD (P .domain) 0 0 ∷ [])) (fresh-mark P set few rules some)) in
       marks-in k ∙ ap masksIn t
 
@@ -151,19 +150,19 @@ set-small f fine = go (hasRules f) refl
     go false e = omega arith
 
 -- The text of an accepted file by the reading's numbers.
-accepted-text : (f : List ℕ) (bytes : Bytes f) (n m : ℕ) (rules : Rules) (u : ℕ) (s : Shows f n m rules u) (set : ℕ) (universal : Bool) → set ≡ setUsed rules → universal ≡ bit u 0
-    → replyText n m set (verdict (problemOf f bytes (s .fine)) []) 0 universal (getD (problemOf f bytes (s .fine) .domain) 0 0) (winningValues (problemOf f bytes (s .fine)) []) ≡ reportOf f bytes
+accepted-text : (f : List ℕ) (n m : ℕ) (rules : Rules) (u : ℕ) (s : Shows f n m rules u) (set : ℕ) (universal : Bool) → set ≡ setUsed rules → universal ≡ bit u 0
+    → replyText n m set (verdict (problemOf f (s .fine)) []) 0 universal (getD (problemOf f (s .fine) .domain) 0 0) (winningValues (problemOf f (s .fine)) []) ≡ reportOf f
 unfolding reportOf problemText problemOf universalOf
-accepted-text f bytes n m rules u s set universal e g =
-    rw (e, s .set, s .variables, s .constraints, g, s .bits, read-universal f (variablesAt f) (nOf f) 0 (accepted f (s .fine) .head .counts .some)) (sym (read-fine f bytes _ _ (s .fine)))
+accepted-text f n m rules u s set universal e g =
+    rw (e, s .set, s .variables, s .constraints, g, s .bits, read-universal f (variablesAt f) (nOf f) 0 (accepted f (s .fine) .head .counts .some)) (sym (read-fine f _ _ (s .fine)))
 
-pub accepted-holds : (f : List ℕ) (bytes : Bytes f) (n m : ℕ) (rules : Rules) (u : ℕ) → Shows f n m rules u → (set : ℕ) (universal : Bool) → set ≡ setUsed rules → universal ≡ bit u 0
-    → (l : List ℕ) (r : ℕ) (l' : List ℕ) → ReportsAccepted f n m set universal l r l' → Holds (reportOf f bytes) l r l'
-accepted-holds f bytes n m rules u s set universal e g l r l' h =
+pub accepted-holds : (f : List ℕ) (n m : ℕ) (rules : Rules) (u : ℕ) → Shows f n m rules u → (set : ℕ) (universal : Bool) → set ≡ setUsed rules → universal ≡ bit u 0
+    → (l : List ℕ) (r : ℕ) (l' : List ℕ) → ReportsAccepted f n m set universal l r l' → Holds (reportOf f) l r l'
+accepted-holds f n m rules u s set universal e g l r l' h =
     let k : set ≤ fullSet = rw (e, s .set) (set-small f (s .fine)) in
-    subst (λ (t : List ℕ). Holds t l r l') (accepted-text f bytes n m rules u s set universal e g) (h bytes (s .fine) k)
+    subst (λ (t : List ℕ). Holds t l r l') (accepted-text f n m rules u s set universal e g) (h (s .fine) k)
 
 -- The text of a refused one.
-pub refused-text : (f : List ℕ) (bytes : Bytes f) (e p : ℕ) → verdictOf f ≡ Not e p → refusedText e p ≡ reportOf f bytes
+pub refused-text : (f : List ℕ) (e p : ℕ) → verdictOf f ≡ Not e p → refusedText e p ≡ reportOf f
 unfolding reportOf
-refused-text f bytes e p q = sym (read-refused f bytes _ _ e p q)
+refused-text f e p q = sym (read-refused f _ _ e p q)

@@ -13,7 +13,7 @@ use Rattle.file_records.specs.Records.{verdictOf}
 use Rattle.game.specs.Problem.{Problem}
 use Rattle.game.specs.Winning.{verdict, winningValues}
 use Rattle.tables.specs.FileProblem.{problemOf}
-use Rattle.rules.specs.Alone.{Bytes, readFirst}
+use Rattle.rules.specs.Alone.{readFirst}
 use Rattle.judging.specs.declared.Judged.{Judged}
 use Rattle.judging.specs.declared.Judged.the-variants.{Won, Lost, Refused, RefusedAt}
 use Rattle.marking.specs.declared.Marked.{Marked}
@@ -32,8 +32,8 @@ unfoldable pub problemText : Problem → ℕ → ℕ → List ℕ
 problemText P m set = replyText (P .n) m set (verdict P []) 0 (P .universal 0) (getD (P .domain) 0 0) (winningValues P [])
 
 -- The text for the bytes f.
-unfoldable pub reportOf : (f : List ℕ) → Bytes f → List ℕ
-reportOf f bytes = readFirst f bytes refusedText (λ P. problemText P (mOf f) (setUsed (rulesOf f)))
+unfoldable pub reportOf : List ℕ → List ℕ
+reportOf f = readFirst f refusedText (λ P. problemText P (mOf f) (setUsed (rulesOf f)))
 
 -- The buffer l becomes l': the text, which ends at r, and behind it what was there.
 pub record Holds (text l : List ℕ) (r : ℕ) (l' : List ℕ) : Type 0 where
@@ -56,14 +56,14 @@ marksBy (NoValuesAt e p) = record { winning = 0; domain = 0 }
 
 -- Of an accepted file, under a rule set: its verdict, the marks of its first variable, its text.
 abbrev pub JudgesFirst : List ℕ → ℕ → Bool → Type 0
-JudgesFirst f set r = (bytes : Bytes f) (fine : verdictOf f ≡ Fine) → set ≤ fullSet → r ≡ verdict (problemOf f bytes fine) []
+JudgesFirst f set r = (fine : verdictOf f ≡ Fine) → set ≤ fullSet → r ≡ verdict (problemOf f fine) []
 
 abbrev pub MarksFirst : List ℕ → ℕ → First → Type 0
 MarksFirst f set r =
-    (bytes : Bytes f) (fine : verdictOf f ≡ Fine) → set ≤ fullSet
-    → (r .winning ≡ winningValues (problemOf f bytes fine) []) × (r .domain ≡ getD (problemOf f bytes fine .domain) 0 0)
+    (fine : verdictOf f ≡ Fine) → set ≤ fullSet
+    → (r .winning ≡ winningValues (problemOf f fine) []) × (r .domain ≡ getD (problemOf f fine .domain) 0 0)
 
 abbrev pub ReportsAccepted : List ℕ → ℕ → ℕ → ℕ → Bool → List ℕ → ℕ → List ℕ → Type 0
 ReportsAccepted f n m set universal l r l' =
-    (bytes : Bytes f) (fine : verdictOf f ≡ Fine) → set ≤ fullSet
-    → Holds (replyText n m set (verdict (problemOf f bytes fine) []) 0 universal (getD (problemOf f bytes fine .domain) 0 0) (winningValues (problemOf f bytes fine) [])) l r l'
+    (fine : verdictOf f ≡ Fine) → set ≤ fullSet
+    → Holds (replyText n m set (verdict (problemOf f fine) []) 0 universal (getD (problemOf f fine .domain) 0 0) (winningValues (problemOf f fine) [])) l r l'

@@ -4,7 +4,6 @@ ghost use mathlib.Core.Path.{_≡_};
 ghost use mathlib.Core.List.{_++_};
 ghost use Prim.Native.Nat.{_≤_};
 ghost use lib.ListN.{length, drop};
-ghost use Rattle.rules.specs.Alone.{Bytes};
 ghost use Rattle.reporting.specs.Reporting.{setUsed, reportOf, ReportsAccepted};
 
 mod opening;
@@ -55,8 +54,8 @@ fn report_accepted(
 // The text for any bytes, at the start of the buffer; replies its length.
 pub fn report_file(f: &[u8], out: &mut [u8; 1024]) -> usize
     ensures { λ r. ⌜ r ≤ 1024 ⌝ }
-    ensures { λ r. ⌜ ((bytes : Bytes (now (f .entry))) → r ≡ length (reportOf (now (f .entry)) bytes)) ⌝ }
-    ensures { λ _. ⌜ ((bytes : Bytes (now (f .entry))) → now (out .exit) ≡ reportOf (now (f .entry)) bytes ++ drop (length (reportOf (now (f .entry)) bytes)) (now (out .entry))) ⌝ }
+    ensures { λ r. ⌜ r ≡ length (reportOf (now (f .entry))) ⌝ }
+    ensures { λ _. ⌜ now (out .exit) ≡ reportOf (now (f .entry)) ++ drop (length (reportOf (now (f .entry)))) (now (out .entry)) ⌝ }
 {
     let r = read(f);
     let h = r.header;

@@ -1,9 +1,10 @@
 -- A test of a row that computes, and the law that a row holds where the test passes.
-use Prim.Native.Nat.{ℕ, zero, suc, _≤_}
+use Prim.Native.Nat.{ℕ, zero, suc, _≤_, _<_}
 use mathlib.Core.Path.{_≡_, refl, ap, ap₂, _∙_}
 use mathlib.Core.Bool.{Bool, true, false, _&&_}
 use mathlib.Core.List.{List, [], _∷_}
 use native.Mathlib.Omega.{arith}
+use lib.ListN.{getD}
 use lib.Dec.{T, eqb, eqb→eq, ltb, ltb→lt}
 use Rattle.mask.proofs.Logic.{and-out}
 use Rattle.refusal.specs.declared.Verdict.{Verdict}
@@ -14,7 +15,6 @@ use Rattle.file_layout.specs.Layout.{nOf}
 use Rattle.file_records.specs.Records.{verdictOf}
 use Rattle.game.specs.Problem.{Problem}
 use Rattle.game.specs.Calls.{Call}
-use Rattle.rules.specs.Alone.{Bytes}
 use Rattle.rule_set.specs.RuleSet.{fullSet}
 use Rattle.search_run.specs.Run.{roomNeeded}
 use Rattle.session.specs.History.{reachedBy}
@@ -29,7 +29,7 @@ unfoldable pub isBytes : List ℕ → Bool
 isBytes [] = true
 isBytes (b ∷ f) = ltb b 256 && isBytes f
 
-pub bytes-of : (f : List ℕ) → T (isBytes f) → Bytes f
+pub bytes-of : (f : List ℕ) → T (isBytes f) → (k : ℕ) → getD f k 0 < 256
 unfolding isBytes
 bytes-of [] t k = omega arith
 bytes-of (b ∷ f) t zero = ltb→lt b 256 (and-out (ltb b 256) (isBytes f) t .0)
@@ -88,30 +88,30 @@ and-then : (b : Bool) (k : T b → Bool) → T (andThen b k) → (t : T b) × T 
 unfolding andThen
 and-then true k t = (tt, t)
 
--- A row passes: its file is of bytes and accepted, and its lines name what is told plainly, in the problem read once.
+-- A row passes: its file is of and accepted, and its lines name what is told plainly, in the problem read once.
 unfoldable pub passes : Row → Bool
 passes r =
     let f = r .file in
-    andThen (isBytes f) (λ b. andThen (isFine (verdictOf f)) (λ t. stagesPass f (readOnce f (bytes-of f b) (fine-of (verdictOf f) t)) (r .stages)))
+    isBytes f && andThen (isFine (verdictOf f)) (λ t. stagesPass f (readOnce f (fine-of (verdictOf f) t)) (r .stages))
 
 unfoldable pub rowsPass : List Row → Bool
 rowsPass [] = true
 rowsPass (r ∷ rs) = passes r && rowsPass rs
 
-module _ (f : List ℕ) (bytes : Bytes f) (fine : verdictOf f ≡ Fine) (set words : ℕ) (known : set ≤ fullSet) (enough : roomNeeded (nOf f) ≤ words) where
+module _ (f : List ℕ) (fine : verdictOf f ≡ Fine) (set words : ℕ) (known : set ≤ fullSet) (enough : roomNeeded (nOf f) ≤ words) where
   abbrev P : Problem
-  P = readOnce f bytes fine
+  P = readOnce f fine
 
-  line-holds : (cs : List Call) (q : Question) → answer f bytes set words (reachedBy f bytes cs) q ≡ plainly f P cs q
-  line-holds cs q = answer-plain f bytes set words fine known enough cs q ∙ ap (λ (P : Problem). plainly f P cs q) (once-is f bytes fine)
+  line-holds : (cs : List Call) (q : Question) → answer f set words (reachedBy f cs) q ≡ plainly f P cs q
+  line-holds cs q = answer-plain f set words fine known enough cs q ∙ ap (λ (P : Problem). plainly f P cs q) (once-is f fine)
 
-  lines-hold : (cs : List Call) (ls : List Line) → T (linesPass f P cs ls) → LinesHold f bytes set words cs ls
+  lines-hold : (cs : List Call) (ls : List Line) → T (linesPass f P cs ls) → LinesHold f set words cs ls
   unfolding linesPass LinesHold
   lines-hold cs [] t = tt
   lines-hold cs ((q gives r) ∷ ls) t =
       let h = and-out (sameTold (plainly f P cs q) r) (linesPass f P cs ls) t in (line-holds cs q ∙ same-told _ r (h .0), lines-hold cs ls (h .1))
 
-  stages-hold : (ss : List Stage) → T (stagesPass f P ss) → StagesHold f bytes set words ss
+  stages-hold : (ss : List Stage) → T (stagesPass f P ss) → StagesHold f set words ss
   unfolding stagesPass StagesHold
   stages-hold [] t = tt
   stages-hold (after cs ls ∷ ss) t = let h = and-out (linesPass f P cs ls) (stagesPass f P ss) t in (lines-hold cs ls (h .0), stages-hold ss (h .1))
@@ -121,9 +121,9 @@ pass-holds : (r : Row) → T (passes r) → Holds r
 unfolding passes
 pass-holds r t =
     let f = r .file in
-    let h = and-then (isBytes f) _ t in
+    let h = and-out (isBytes f) _ t in
     let k = and-then (isFine (verdictOf f)) _ (h .1) in
-    record { bytes = bytes-of f (h .0); answered = λ set words known enough. stages-hold f (bytes-of f (h .0)) (fine-of (verdictOf f) (k .0)) set words known enough (r .stages) (k .1) }
+    record { bytes = bytes-of f (h .0); answered = λ set words known enough. stages-hold f (fine-of (verdictOf f) (k .0)) set words known enough (r .stages) (k .1) }
 
 pub rows-hold : (rs : List Row) → T (rowsPass rs) → RowsHold rs
 unfolding rowsPass RowsHold

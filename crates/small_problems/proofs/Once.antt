@@ -1,44 +1,39 @@
--- The problem of an accepted file, read once. In `problemOf` each domain and each look-up asks for the file's verdict again; here it is
--- put in, so that small problems compute.
-use Prim.Native.Nat.{ℕ, _<_}
+-- The problem of an accepted file, read once. In `problemOf` each look-up asks for the file's verdict again; here it is put in, so that
+-- small problems compute.
+use Prim.Native.Nat.{ℕ}
 use mathlib.Core.Path.{_≡_}
 use mathlib.Core.Bool.{Bool, false, _&&_, _||_}
 use mathlib.Core.List.{List}
 use lib.Dec.{T}
-use lib.ListN.{getD, length, take}
 use Rattle.refusal.specs.declared.Verdict.{Verdict}
 use Rattle.refusal.specs.declared.Verdict.the-variants.{Fine}
 use Rattle.file_layout.specs.Layout.{nOf}
 use Rattle.file_records.specs.Records.{verdictOf}
-use Rattle.problem_file.specs.Reading.{domainsFor, domainsOf}
 use Rattle.pair_lookup.specs.Lookup.{lookFor, lookUp}
 use Rattle.game.specs.Problem.{Problem}
-use Rattle.tables.specs.FileProblem.{universalOf, found, allows, constrainedOf, compatibleOf, problemOf}
-use Rattle.rules.specs.Alone.{Bytes}
+use Rattle.game.specs.Lists.{listOf}
+use Rattle.tables.specs.FileProblem.{domainOf, universalOf, found, allows, constrainedOf, compatibleOf, problemOf}
 
 module _ (f : List ℕ) where
   -- The parts that go by the verdict v.
-  abbrev domainBy : Verdict → List ℕ
-  domainBy v = take (nOf f) (domainsFor v f)
-
   abbrev compatibleBy : Verdict → ℕ → ℕ → ℕ → ℕ → Bool
   compatibleBy v i a j b = allows (lookFor v f i j) f a b && allows (lookFor v f j i) f b a
 
   abbrev constrainedBy : Verdict → ℕ → ℕ → Bool
   constrainedBy v i j = found (lookFor v f i j) || found (lookFor v f j i)
 
-  module _ (bytes : Bytes f) (fine : verdictOf f ≡ Fine) where
-    open Problem (problemOf f bytes fine) using (sized, bounded, nonempty, symmetric, apart, free)
+  module _ (fine : verdictOf f ≡ Fine) where
+    open Problem (problemOf f fine) using (sized, bounded, nonempty, symmetric, apart, free)
 
     -- From `problemOf` to the problem with the verdict put in, the laws carried along.
     unfoldable pub onTheWay : 𝕀 → Problem
-    unfolding problemOf domainsOf lookUp compatibleOf constrainedOf
+    unfolding problemOf lookUp compatibleOf constrainedOf
     onTheWay i = record {
       n = nOf f;
-      domain = domainBy (fine i);
-      sized = coe 0 i (k. length (domainBy (fine k)) ≡ nOf f) sized;
-      bounded = coe 0 i (k. (x : ℕ) → getD (domainBy (fine k)) x 0 < 65536) bounded;
-      nonempty = coe 0 i (k. (x : ℕ) → x < nOf f → ¬ (getD (domainBy (fine k)) x 0 ≡ 0)) nonempty;
+      domain = listOf (nOf f) (domainOf f);
+      sized = sized;
+      bounded = bounded;
+      nonempty = nonempty;
       universal = universalOf f;
       compatible = compatibleBy (fine i);
       symmetric = coe 0 i (k. (x a y b : ℕ) → compatibleBy (fine k) x a y b ≡ compatibleBy (fine k) y b x a) symmetric;
@@ -50,6 +45,6 @@ module _ (f : List ℕ) where
     unfoldable pub readOnce : Problem
     readOnce = onTheWay 1
 
-    pub once-is : problemOf f bytes fine ≡ readOnce
-    unfolding problemOf domainsOf lookUp compatibleOf constrainedOf onTheWay readOnce
+    pub once-is : problemOf f fine ≡ readOnce
+    unfolding problemOf lookUp compatibleOf constrainedOf onTheWay readOnce
     once-is = λ i. onTheWay i

@@ -18,7 +18,7 @@ use Rattle.game.specs.Problem.{Problem}
 use Rattle.game.specs.Calls.{Call, standing}
 use Rattle.game.specs.Winning.{verdict}
 use Rattle.tables.specs.FileProblem.{problemOf}
-use Rattle.rules.specs.Alone.{Bytes, readFirst, arcReply, arcList, pureReply, interchangeableReply, arcTold, arcLeft, pureTold, interchangeableTold}
+use Rattle.rules.specs.Alone.{readFirst, arcReply, arcList, pureReply, interchangeableReply, arcTold, arcLeft, pureTold, interchangeableTold}
 use Rattle.rules.proofs.ReadLaws.{read-fine}
 use Rattle.position.specs.Position.{fitsIn}
 use Rattle.session.specs.History.{reachedBy, listTold, listOpened}
@@ -44,36 +44,36 @@ plainly f P cs (arcLeaving l) = replied (arcList P l)
 plainly f P cs (pureAt x l) = pureReply P l x
 plainly f P cs (interchangeableAt x l) = interchangeableReply P l x
 
-module _ (f : List ℕ) (bytes : Bytes f) (set words : ℕ) (fine : verdictOf f ≡ Fine) (known : set ≤ fullSet) (enough : roomNeeded (nOf f) ≤ words) where
+module _ (f : List ℕ) (set words : ℕ) (fine : verdictOf f ≡ Fine) (known : set ≤ fullSet) (enough : roomNeeded (nOf f) ≤ words) where
   abbrev P : Problem
-  P = problemOf f bytes fine
+  P = problemOf f fine
 
   -- A call that reads the file first.
-  reads : (reply : Problem → Told) → readFirst f bytes refusedAt reply ≡ reply P
-  reads reply = read-fine f bytes refusedAt reply fine
+  reads : (reply : Problem → Told) → readFirst f refusedAt reply ≡ reply P
+  reads reply = read-fine f refusedAt reply fine
 
   room : roomNeeded (P .n) ≤ words
   unfolding problemOf
   room = enough
 
   -- In a position that calls reach, judging has nothing to refuse.
-  judge-plain : (cs : List Call) → judgeTold f bytes (reachedBy f bytes cs) set words ≡ replied (cond (verdict P (standing P cs)) 1 0 ∷ [])
+  judge-plain : (cs : List Call) → judgeTold f (reachedBy f cs) set words ≡ replied (cond (verdict P (standing P cs)) 1 0 ∷ [])
   unfolding judgeTold judgeReply judgeTest positionTest roomTest isRuleSet repliedFor need _then_
   judge-plain cs =
-      let fits : fitsIn (reachedBy f bytes cs) (P .n) (P .domain) ≡ true = holds (reached-fits f bytes fine cs) in
-      reads (λ Q. judgeReply Q (reachedBy f bytes cs) set words)
-      ∙ rw (le-leb set fullSet known, fits, le-leb (roomNeeded (P .n)) words room, reached-plays f bytes fine cs)
+      let fits : fitsIn (reachedBy f cs) (P .n) (P .domain) ≡ true = holds (reached-fits f fine cs) in
+      reads (λ Q. judgeReply Q (reachedBy f cs) set words)
+      ∙ rw (le-leb set fullSet known, fits, le-leb (roomNeeded (P .n)) words room, reached-plays f fine cs)
 
-  pub answer-plain : (cs : List Call) (q : Question) → answer f bytes set words (reachedBy f bytes cs) q ≡ plainly f P cs q
+  pub answer-plain : (cs : List Call) (q : Question) → answer f set words (reachedBy f cs) q ≡ plainly f P cs q
   unfolding answer plainly arcTold arcLeft pureTold interchangeableTold
   answer-plain cs size = refl
   answer-plain cs reading = refl
   answer-plain cs (lookingUp i j) = refl
   answer-plain cs judging = judge-plain cs
-  answer-plain cs marking = demand-3 f bytes fine cs set words .0 known room
-  answer-plain cs opening = demand-3 f bytes fine cs set words .1
-  answer-plain cs (calling c) = reached-told f bytes fine cs c
+  answer-plain cs marking = demand-3 f fine cs set words .0 known room
+  answer-plain cs opening = demand-3 f fine cs set words .1
+  answer-plain cs (calling c) = reached-told f fine cs c
   answer-plain cs (arc l) = reads (λ Q. arcReply Q l)
-  answer-plain cs (arcLeaving l) = ap replied (read-fine f bytes (λ e p. l) (λ Q. arcList Q l) fine)
+  answer-plain cs (arcLeaving l) = ap replied (read-fine f (λ e p. l) (λ Q. arcList Q l) fine)
   answer-plain cs (pureAt x l) = reads (λ Q. pureReply Q l x)
   answer-plain cs (interchangeableAt x l) = reads (λ Q. interchangeableReply Q l x)

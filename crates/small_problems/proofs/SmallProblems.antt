@@ -9,7 +9,7 @@ use Rattle.refusal.specs.Chain.{_then_, need, only}
 use Rattle.file_layout.specs.Numbers.{countsFit, inOrder, pairOf, rowFits, rowsFit, constraintFits}
 use Rattle.file_layout.specs.Layout.{word, marked, opened, rulesOf, variablesAt, domainAt, universalAt, rowAt, pairAt, constraintsAt}
 use Rattle.file_records.specs.Records.{qpTest, rsTest, variableTest as variableFine, variablesTest, constraintTest, lastPair, constraintsTest, enTest, restTest, verdictOf}
-use Rattle.problem_file.specs.Reading.{ruleNumbers, headerNumbers, universalBits, domainsTo, headerFor, domainsFor, headerOf}
+use Rattle.problem_file.specs.Reading.{ruleNumbers, headerNumbers, universalBits, headerFor, headerOf}
 use Rattle.pair_lookup.specs.Lookup.{placeTo, placeOf, lookFor, lookUp, rowsAt}
 use Rattle.game.specs.Game.{put, turn, satisfied, won, wins}
 use Rattle.game.specs.Lists.{domains, listOf, masksOf, within, mayLend, winsOver}
@@ -21,7 +21,7 @@ use Rattle.game.specs.Support.{clashes, alone, empty}
 use Rattle.game.specs.Arc.{dead, barred, arcLoss, sweep, swept, arc}
 use Rattle.game.specs.Pure.{isPure, pure}
 use Rattle.game.specs.Interchangeable.{interchange, representatives, interchangeable}
-use Rattle.tables.specs.FileProblem.{universalOf, found, allows}
+use Rattle.tables.specs.FileProblem.{domainOf, universalOf, found, allows}
 use Rattle.rules.specs.Lend.{listTest, variableTest}
 use Rattle.rules.specs.Alone.{lossFor, maskFor, listFor, arcReply, arcList, pureReply, interchangeableReply}
 use Rattle.session.specs.Opening.{spread}
@@ -40,7 +40,7 @@ unfolding words variables constraints file
 layout = tt
 
 reading : Unit {0}
-unfolding some each bit maskOf _then_ need only countsFit inOrder pairOf rowFits rowsFit constraintFits word marked opened rulesOf variablesAt domainAt universalAt rowAt pairAt constraintsAt qpTest rsTest variableFine variablesTest constraintTest lastPair constraintsTest enTest restTest verdictOf ruleNumbers headerNumbers universalBits domainsTo headerFor domainsFor headerOf placeTo placeOf lookFor lookUp rowsAt
+unfolding some each bit maskOf _then_ need only countsFit inOrder pairOf rowFits rowsFit constraintFits word marked opened rulesOf variablesAt domainAt universalAt rowAt pairAt constraintsAt qpTest rsTest variableFine variablesTest constraintTest lastPair constraintsTest enTest restTest verdictOf ruleNumbers headerNumbers universalBits headerFor headerOf placeTo placeOf lookFor lookUp rowsAt
 reading = tt
 
 game : Unit {0}
@@ -48,7 +48,7 @@ unfolding count put turn satisfied won wins domains listOf masksOf within mayLen
 game = tt
 
 replies : Unit {0}
-unfolding universalOf found allows listTest variableTest lossFor maskFor listFor arcReply arcList pureReply interchangeableReply spread listTold listOpened listMarked plainly
+unfolding domainOf universalOf found allows listTest variableTest lossFor maskFor listFor arcReply arcList pureReply interchangeableReply spread listTold listOpened listMarked plainly
 replies = tt
 
 checking : Unit {0}

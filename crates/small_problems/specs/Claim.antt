@@ -1,30 +1,30 @@
 -- What it means that the rows of a table hold.
-use Prim.Native.Nat.{ℕ, _≤_}
+use Prim.Native.Nat.{ℕ, _≤_, _<_}
 use mathlib.Core.Path.{_≡_}
 use mathlib.Core.List.{List, [], _∷_}
+use lib.ListN.{getD}
 use Rattle.rule_set.specs.RuleSet.{fullSet}
 use Rattle.file_layout.specs.Layout.{nOf}
 use Rattle.game.specs.Calls.{Call}
-use Rattle.rules.specs.Alone.{Bytes}
 use Rattle.search_run.specs.Run.{roomNeeded}
 use Rattle.session.specs.History.{reachedBy}
 use Rattle.small_problems.specs.Questions.{answer}
 use Rattle.small_problems.specs.Table.{Line, _gives_, Stage, after, Row}
 
-module _ (f : List ℕ) (bytes : Bytes f) (set words : ℕ) where
+module _ (f : List ℕ) (set words : ℕ) where
   -- Each question has its answer, in the position that these calls reach.
   unfoldable pub LinesHold : List Call → List Line → Type 0
   LinesHold cs [] = Unit {0}
-  LinesHold cs ((q gives t) ∷ ls) = (answer f bytes set words (reachedBy f bytes cs) q ≡ t) × LinesHold cs ls
+  LinesHold cs ((q gives t) ∷ ls) = (answer f set words (reachedBy f cs) q ≡ t) × LinesHold cs ls
 
   unfoldable pub StagesHold : List Stage → Type 0
   StagesHold [] = Unit {0}
   StagesHold (after cs ls ∷ ss) = LinesHold cs ls × StagesHold ss
 
--- A row holds: its file is one of bytes, and each question has its answer, under every rule set and in every room that is large enough.
+-- A row holds: its file is one of, and each question has its answer, under every rule set and in every room that is large enough.
 pub record Holds (r : Row) : Type 0 where
-  pub bytes : Bytes (r .file)
-  pub answered : (set words : ℕ) → set ≤ fullSet → roomNeeded (nOf (r .file)) ≤ words → StagesHold (r .file) bytes set words (r .stages)
+  pub bytes : (k : ℕ) → getD (r .file) k 0 < 256
+  pub answered : (set words : ℕ) → set ≤ fullSet → roomNeeded (nOf (r .file)) ≤ words → StagesHold (r .file) set words (r .stages)
 
 unfoldable pub RowsHold : List Row → Type 0
 RowsHold [] = Unit {0}

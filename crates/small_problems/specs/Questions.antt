@@ -6,7 +6,7 @@ use Rattle.refusal.specs.Told.{Told, replied}
 use Rattle.problem_file.specs.Reading.{headerOf}
 use Rattle.pair_lookup.specs.Lookup.{lookUp}
 use Rattle.game.specs.Calls.{Call}
-use Rattle.rules.specs.Alone.{Bytes, arcTold, arcLeft, pureTold, interchangeableTold}
+use Rattle.rules.specs.Alone.{arcTold, arcLeft, pureTold, interchangeableTold}
 use Rattle.position.specs.declared.Position.{Position}
 use Rattle.session.specs.Told.{openTold}
 use Rattle.session.specs.History.{callTold}
@@ -30,15 +30,15 @@ pub data Question : Type 0 where
   interchangeableAt : ℕ → List ℕ → Question
 
 -- The file f and the position p, under the rule set of this number and with room for so many words.
-unfoldable pub answer : (f : List ℕ) → Bytes f → (set words : ℕ) → Position → Question → Told
-answer f bytes set words p size = replied (length f ∷ [])
-answer f bytes set words p reading = headerOf f
-answer f bytes set words p (lookingUp i j) = lookUp f i j
-answer f bytes set words p judging = judgeTold f bytes p set words
-answer f bytes set words p marking = markTold f bytes p set words
-answer f bytes set words p opening = openTold f bytes p
-answer f bytes set words p (calling c) = callTold f bytes p c
-answer f bytes set words p (arc l) = arcTold f bytes l
-answer f bytes set words p (arcLeaving l) = replied (arcLeft f bytes l)
-answer f bytes set words p (pureAt x l) = pureTold f bytes l x
-answer f bytes set words p (interchangeableAt x l) = interchangeableTold f bytes l x
+unfoldable pub answer : List ℕ → (set words : ℕ) → Position → Question → Told
+answer f set words p size = replied (length f ∷ [])
+answer f set words p reading = headerOf f
+answer f set words p (lookingUp i j) = lookUp f i j
+answer f set words p judging = judgeTold f p set words
+answer f set words p marking = markTold f p set words
+answer f set words p opening = openTold f p
+answer f set words p (calling c) = callTold f p c
+answer f set words p (arc l) = arcTold f l
+answer f set words p (arcLeaving l) = replied (arcLeft f l)
+answer f set words p (pureAt x l) = pureTold f l x
+answer f set words p (interchangeableAt x l) = interchangeableTold f l x

@@ -1,9 +1,8 @@
 use mathlib.Core.Path.{_≡_, ap, _∙_}
 use lib.ListN.{length}
 use borrow.Author.Needs.{needs}
-use Rattle.rules.specs.Alone.{Bytes}
 use Rattle.position.specs.declared.Position.{Position}
-use Rattle.session.specs.Told.{toldOpened, openTold}
+use Rattle.session.specs.Told.{toldOpened, openTold, masksShown, countsShown}
 use Rattle.session.specs.History.{reachedBy}
 use Rattle.marking.specs.Marking.{told, markTold, markLeft}
 use Rattle.history.specs.Replay.{callsOf}
@@ -28,30 +27,34 @@ same-length : tie.Need-same-length
 same-length c = search needs
 
 -- What the entries reply, over the calls.
-over : (c : tie.After-reached) → let a = c .before .before .before .before .before .args in (bytes : Bytes (a .f .now)) → c .reached .result ≡ reachedBy (a .f .now) bytes (callsOf (a .calls .now))
-over c bytes = from-fresh _ bytes _ _ _ (c .before .fresh .ensures) (c .reached .ensures bytes)
+over : (c : tie.After-reached) → let a = c .before .before .before .before .before .args in c .reached .result ≡ reachedBy (a .f .now) (callsOf (a .calls .now))
+over c = from-fresh _ _ _ _ (c .before .fresh .ensures) (c .reached .ensures)
 
-marked : (c : tie.After-mark) → let a = c .before .before .before .before .before .before .before .before .args in (bytes : Bytes (a .f .now)) →
-    told (c .mark .result) ≡ markTold (a .f .now) bytes (reachedBy (a .f .now) bytes (callsOf (a .calls .now))) (a .set) (length (a .room .now))
-marked c bytes = let a = c .before .before .before .before .before .before .before .before .args in
-    c .mark .ensures .0 bytes ∙ ap (λ (p : Position). markTold (a .f .now) bytes p (a .set) (length (a .room .now))) (over (c .before .before .before) bytes)
+marked : (c : tie.After-mark) → let a = c .before .before .before .before .before .before .before .before .args in
+    told (c .mark .result) ≡ markTold (a .f .now) (reachedBy (a .f .now) (callsOf (a .calls .now))) (a .set) (length (a .room .now))
+marked c = let a = c .before .before .before .before .before .before .before .before .args in
+    c .mark .ensures .0 ∙ ap (λ (p : Position). markTold (a .f .now) p (a .set) (length (a .room .now))) (over (c .before .before .before))
 
-opened : (c : tie.After-open-values) → let a = c .before .before .before .before .before .before .args in (bytes : Bytes (a .f .now)) →
-    toldOpened (c .open-values .result) ≡ openTold (a .f .now) bytes (reachedBy (a .f .now) bytes (callsOf (a .calls .now)))
-opened c bytes = let a = c .before .before .before .before .before .before .args in
-    c .open-values .ensures .0 bytes ∙ ap (openTold (a .f .now) bytes) (over (c .before) bytes)
+opened : (c : tie.After-open-values) → let a = c .before .before .before .before .before .before .args in
+    toldOpened (c .open-values .result) ≡ openTold (a .f .now) (reachedBy (a .f .now) (callsOf (a .calls .now)))
+opened c = let a = c .before .before .before .before .before .before .args in
+    c .open-values .ensures .0 ∙ ap (openTold (a .f .now)) (over (c .before))
 
 returns : tie.Need-returns
 returns c =
     let m = c .before .before in
     let o = c .before .before .before .before in
-    let a = o .before .before .before .before .before .before .args in (
+    let a = o .before .before .before .before .before .before .args in
+    let e = o .open-values .ensures .1 in (
       marked m,
       (
         opened o,
         (
-          λ bytes. m .mark .ensures .1 bytes ∙ ap (λ (p : Position). markLeft (a .f .now) bytes p (a .set) (a .room .now)) (over (o .before) bytes),
-          λ bytes fine. let d = demand-3 (a .f .now) bytes fine (callsOf (a .calls .now)) (a .set) (length (a .room .now)) in (λ s r. marked m bytes ∙ d .0 s r, opened o bytes ∙ d .1),
+          (e .0 ∙ ap (masksShown (a .f .now)) (over (o .before)), e .1 ∙ ap (countsShown (a .f .now)) (over (o .before))),
+          (
+            m .mark .ensures .1 ∙ ap (λ (p : Position). markLeft (a .f .now) p (a .set) (a .room .now)) (over (o .before)),
+            λ fine. let t = demand-3 (a .f .now) fine (callsOf (a .calls .now)) (a .set) (length (a .room .now)) in (λ s r. marked m ∙ t .0 s r, opened o ∙ t .1),
+          ),
         ),
       ),
     )

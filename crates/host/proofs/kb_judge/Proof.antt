@@ -17,7 +17,7 @@ judged-shown-requires : tie.Need-judged-shown-requires
 judged-shown-requires c κs = search needs
 
 returns : tie.Need-returns
-returns c = λ bytes. c .judged-shown .ensures ∙ ap judgementOf (c .before .before .judge .ensures .0 bytes ∙ rw (c .before .before .before .before .unpacked .ensures) refl)
+returns c = c .judged-shown .ensures ∙ ap judgementOf (c .before .before .judge .ensures .0 ∙ rw (c .before .before .before .before .unpacked .ensures) refl)
 
 pub kb-judge-spec : {M : Type 1} → statement M
 kb-judge-spec =

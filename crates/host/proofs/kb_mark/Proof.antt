@@ -17,7 +17,7 @@ marked-shown-requires : tie.Need-marked-shown-requires
 marked-shown-requires c κs = search needs
 
 returns : tie.Need-returns
-returns c = λ bytes. c .marked-shown .ensures ∙ ap marksOf (c .before .before .mark .ensures .0 bytes ∙ rw (c .before .before .before .before .unpacked .ensures) refl)
+returns c = c .marked-shown .ensures ∙ ap marksOf (c .before .before .mark .ensures .0 ∙ rw (c .before .before .before .before .unpacked .ensures) refl)
 
 pub kb-mark-spec : {M : Type 1} → statement M
 kb-mark-spec =

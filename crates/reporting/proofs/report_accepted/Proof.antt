@@ -22,7 +22,7 @@ render-reply-requires : tie.Need-render-reply-requires
 render-reply-requires c κs = omega (arith, text-long (c .before))
 
 returns : tie.Need-returns
-returns c = (omega (arith, text-long (c .before .before), c .render-reply .ensures .0), λ bytes fine h. holds-as _ _ (reply-same _ _ _ _ (c .before .before .before .is-won .ensures bytes fine h) (c .before .before .first-marks .ensures bytes fine h .1) (c .before .before .first-marks .ensures bytes fine h .0)) (c .render-reply .ensures .0) (c .render-reply .ensures .1))
+returns c = (omega (arith, text-long (c .before .before), c .render-reply .ensures .0), λ fine h. holds-as _ _ (reply-same _ _ _ _ (c .before .before .before .is-won .ensures fine h) (c .before .before .first-marks .ensures fine h .1) (c .before .before .first-marks .ensures fine h .0)) (c .render-reply .ensures .0) (c .render-reply .ensures .1))
 
 pub report-accepted-spec : {M : Type 1} → statement M
 report-accepted-spec =

@@ -51,8 +51,8 @@ returns c =
     let e = c .render-refusal .ensures in (
       omega (arith, refusal-long (c .before .before), e .0),
       (
-        λ bytes. holds-as _ _ (refused-text _ bytes _ _ q) (e .0) (e .1) .ends,
-        λ bytes. holds-as _ _ (refused-text _ bytes _ _ q) (e .0) (e .1) .bytes,
+        holds-as _ _ (refused-text _ _ _ q) (e .0) (e .1) .ends,
+        holds-as _ _ (refused-text _ _ _ q) (e .0) (e .1) .bytes,
       ),
     )
 
@@ -64,8 +64,8 @@ returns-2 c =
     let w = c .before .before .contains-32 .ensures in (
       e .0,
       (
-        λ bytes. accepted-holds _ bytes _ _ _ _ s _ _ u w _ _ _ (e .1) .ends,
-        λ bytes. accepted-holds _ bytes _ _ _ _ s _ _ u w _ _ _ (e .1) .bytes,
+        accepted-holds _ _ _ _ _ s _ _ u w _ _ _ (e .1) .ends,
+        accepted-holds _ _ _ _ _ s _ _ u w _ _ _ (e .1) .bytes,
       ),
     )
 

@@ -18,7 +18,7 @@ marks-by-requires : tie.Need-marks-by-requires
 marks-by-requires c κs = search needs
 
 returns : tie.Need-returns
-returns c = λ bytes fine h. let e = c .marks-by .ensures ∙ marks-first _ bytes fine _ _ _ (c .before .before .before .before .fresh .ensures) refl h _ (c .before .before .mark .ensures .0 bytes) in (ap (λ (r : First). r .winning) e, ap (λ (r : First). r .domain) e)
+returns c = λ fine h. let e = c .marks-by .ensures ∙ marks-first _ fine _ _ _ (c .before .before .before .before .fresh .ensures) refl h _ (c .before .before .mark .ensures .0) in (ap (λ (r : First). r .winning) e, ap (λ (r : First). r .domain) e)
 
 pub first-marks-spec : {M : Type 1} → statement M
 first-marks-spec =

@@ -17,7 +17,7 @@ won-by-requires : tie.Need-won-by-requires
 won-by-requires c κs = search needs
 
 returns : tie.Need-returns
-returns c = λ bytes fine h. c .won-by .ensures ∙ won-first _ bytes fine _ _ _ (c .before .before .before .before .fresh .ensures) refl h _ (c .before .before .judge .ensures .0 bytes)
+returns c = λ fine h. c .won-by .ensures ∙ won-first _ fine _ _ _ (c .before .before .before .before .fresh .ensures) refl h _ (c .before .before .judge .ensures .0)
 
 pub is-won-spec : {M : Type 1} → statement M
 is-won-spec =
