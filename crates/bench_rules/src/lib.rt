@@ -1,4 +1,9 @@
 // The five rules' entries as C functions, for the bench program in bench/rules: each reply as one number. Not for callers.
+ghost use mathlib.Core.Path.{_≡_};
+ghost use lib.ListN.{getD};
+ghost use Rattle.problem_file.specs.Reading.{domainsOf};
+ghost use Rattle.rules.specs.Alone.{told, toldValues, arcTold, arcLeft, forwardTold, forwardLeft, aheadTold, pureTold, interchangeableTold};
+ghost use Rattle.bench_rules.specs.Number.{asNumber};
 use rules::Ruled;
 use rules::Values;
 use rules::arc;
@@ -8,7 +13,9 @@ use rules::look_ahead;
 use rules::pure;
 use tables::decode;
 
-fn ruled(r: Ruled) -> u64 {
+fn ruled(r: Ruled) -> u64
+    ensures { λ k. ⌜ k ≡ asNumber 2 (told r) ⌝ }
+{
     match r {
         Ruled::Stands => 0,
         Ruled::Lost => 1,
@@ -17,7 +24,9 @@ fn ruled(r: Ruled) -> u64 {
     }
 }
 
-fn values(r: Values) -> u64 {
+fn values(r: Values) -> u64
+    ensures { λ k. ⌜ k ≡ asNumber 65536 (toldValues r) ⌝ }
+{
     match r {
         Values::Mask(m) => m as u64,
         Values::Refused(_) => 65536,
@@ -25,9 +34,11 @@ fn values(r: Values) -> u64 {
     }
 }
 
-// Reading and decoding alone.
+// Reading and decoding alone: the first domain.
 #[no_mangle]
-pub extern "C" fn bench_decode(f: &[u8]) -> u64 {
+pub extern "C" fn bench_decode(f: &[u8]) -> u64
+    ensures { λ r. ⌜ r ≡ getD (domainsOf (now (f .entry))) 0 0 ⌝ }
+{
     let mut near = [0u32; 32];
     let mut index = [0u16; 1024];
     let mut rows = [0u16; 15888];
@@ -37,26 +48,38 @@ pub extern "C" fn bench_decode(f: &[u8]) -> u64 {
 }
 
 #[no_mangle]
-pub extern "C" fn bench_arc(f: &[u8], list: &mut [u16]) -> u64 {
+pub extern "C" fn bench_arc(f: &[u8], list: &mut [u16]) -> u64
+    ensures { λ r. ⌜ r ≡ asNumber 2 (arcTold (now (f .entry)) (now (list .entry))) ⌝ }
+    ensures { λ _. ⌜ now (list .exit) ≡ arcLeft (now (f .entry)) (now (list .entry)) ⌝ }
+{
     ruled(arc(f, list))
 }
 
 #[no_mangle]
-pub extern "C" fn bench_forward(f: &[u8], list: &mut [u16], x: usize, a: usize) -> u64 {
+pub extern "C" fn bench_forward(f: &[u8], list: &mut [u16], x: usize, a: usize) -> u64
+    ensures { λ r. ⌜ r ≡ asNumber 2 (forwardTold (now (f .entry)) (now (list .entry)) x a) ⌝ }
+    ensures { λ _. ⌜ now (list .exit) ≡ forwardLeft (now (f .entry)) (now (list .entry)) x a ⌝ }
+{
     ruled(forward_check(f, list, x, a))
 }
 
 #[no_mangle]
-pub extern "C" fn bench_look_ahead(f: &[u8], list: &[u16], x: usize) -> u64 {
+pub extern "C" fn bench_look_ahead(f: &[u8], list: &[u16], x: usize) -> u64
+    ensures { λ r. ⌜ r ≡ asNumber 2 (aheadTold (now (f .entry)) (now (list .entry)) x) ⌝ }
+{
     ruled(look_ahead(f, list, x))
 }
 
 #[no_mangle]
-pub extern "C" fn bench_pure(f: &[u8], list: &[u16], x: usize) -> u64 {
+pub extern "C" fn bench_pure(f: &[u8], list: &[u16], x: usize) -> u64
+    ensures { λ r. ⌜ r ≡ asNumber 65536 (pureTold (now (f .entry)) (now (list .entry)) x) ⌝ }
+{
     values(pure(f, list, x))
 }
 
 #[no_mangle]
-pub extern "C" fn bench_interchangeable(f: &[u8], list: &[u16], x: usize) -> u64 {
+pub extern "C" fn bench_interchangeable(f: &[u8], list: &[u16], x: usize) -> u64
+    ensures { λ r. ⌜ r ≡ asNumber 65536 (interchangeableTold (now (f .entry)) (now (list .entry)) x) ⌝ }
+{
     values(interchangeable(f, list, x))
 }
