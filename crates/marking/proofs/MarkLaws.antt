@@ -21,7 +21,7 @@ use Rattle.game.specs.Problem.{Problem}
 use Rattle.game.specs.Lists.{domains}
 use Rattle.game.specs.Search.{is-solved, searchFrom, markedValues}
 use Rattle.turn_words.specs.TurnRoom.{zeroed}
-use Rattle.turn_words.proofs.RoomLaws.{length-zeroed, run-at, run-other}
+use Rattle.turn_words.proofs.RoomLaws.{length-zeroed, zeroed-at, zeroed-other}
 use Rattle.position.specs.declared.Position.{Position}
 use Rattle.position.specs.Position.{playsOf, fitsIn}
 use Rattle.position.proofs.Fitting.{length-plays}
@@ -44,13 +44,12 @@ bit-withValue m a false k = sym (or-false (bit m k))
 
 -- Words that are zero stay so.
 zeroed-twice : (k : ℕ) (w : List ℕ) → k ≤ length w → zeroed 0 k (zeroed 0 k w) ≡ zeroed 0 k w
-unfolding zeroed
 zeroed-twice k w h =
     let l = length-zeroed 0 k w in
     let m = length-zeroed 0 k (zeroed 0 k w) in
     ext-getD 0 (zeroed 0 k (zeroed 0 k w)) (zeroed 0 k w) m λ i u. by-lt i k
-    (λ b. run-at 0 k (λ j. 0) (zeroed 0 k w) i (omega arith) b (omega arith) ∙ sym (run-at 0 k (λ j. 0) w i (omega arith) b (omega arith)))
-    (λ b. run-other 0 k (λ j. 0) (zeroed 0 k w) i (inr b))
+    (λ b. zeroed-at 0 k (zeroed 0 k w) i (omega arith) b (omega arith) ∙ sym (zeroed-at 0 k w i (omega arith) b (omega arith)))
+    (λ b. zeroed-other 0 k (zeroed 0 k w) i (inr b))
 
 -- The values looked at are in `won` exactly if they win. The room is zero where one was looked at.
 pub record Marking (n universal : ℕ) (near index rows masks : List ℕ) (S : ℕ) (p : Position) (k : ℕ) (room₀ : List ℕ) (m : ℕ) (room : List ℕ) (won left : ℕ) : Type 0 where

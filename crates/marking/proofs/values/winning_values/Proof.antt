@@ -9,7 +9,7 @@ use Rattle.marking.proofs.values.winning_values.Statement.{statement}
 use Rattle.marking.proofs.values.winning_values.Tie as tie
 
 abbrev Inv-loop : tie.InvT-loop
-Inv-loop near index rows n universal domains set p room₀ d m won₀ left₀ room won left = Marking n universal near index rows domains set p (roomNeeded n) room₀ m room won left
+Inv-loop near index rows n universal domains set p room₀ d m won₀ left₀ room won left = Marking n universal near index rows domains (set .bits) p (roomNeeded n) room₀ m room won left
 
 abbrev μ-loop : tie.MeasureT-loop
 μ-loop near index rows n universal domains set p room₀ d m won₀ left₀ room won left = left
