@@ -10,7 +10,7 @@ use borrow.Author.Tests.{le-leb}
 use Rattle.mask.proofs.Logic.{holds}
 use Rattle.refusal.specs.declared.Verdict.the-variants.{Fine}
 use Rattle.refusal.specs.Chain.{_then_, need}
-use Rattle.rule_set.specs.RuleSet.{fullSet, isRuleSet}
+use Rattle.rule_set.specs.RuleSet.{greatestSet, isRuleSet}
 use Rattle.file_records.specs.Records.{verdictOf}
 use Rattle.problem_file.proofs.Accepted.{variables-most}
 use Rattle.game.specs.Problem.{Problem}
@@ -44,13 +44,13 @@ module _ (f : List ℕ) (fine : verdictOf f ≡ Fine) where
   fits l t = holds (legal-fit P few l t)
 
   -- Marks at a position that shows legal plays, by whether a variable is left.
-  marks-by : (l : List ℕ) (set words : ℕ) → set ≤ fullSet → roomNeeded (P .n) ≤ words → T (legal P l) → (b : Bool) → ltb (length l) (P .n) ≡ b
+  marks-by : (l : List ℕ) (set words : ℕ) → set ≤ greatestSet → roomNeeded (P .n) ≤ words → T (legal P l) → (b : Bool) → ltb (length l) (P .n) ≡ b
       → repliedFor (markTest (P .n) (P .domain) (shown l) set words) (winningValues P (playsOf (shown l)) ∷ getD (P .domain) (length l) 0 ∷ []) ≡ listMarked P l
   unfolding markTest positionTest roomTest isRuleSet repliedFor listMarked need _then_ shown
-  marks-by l set words s r t true e = rw (le-leb set fullSet s, fits l t, e, le-leb (roomNeeded (P .n)) words r, plays-shown l)
-  marks-by l set words s r t false e = rw (le-leb set fullSet s, fits l t, e)
+  marks-by l set words s r t true e = rw (le-leb set greatestSet s, fits l t, e, le-leb (roomNeeded (P .n)) words r, plays-shown l)
+  marks-by l set words s r t false e = rw (le-leb set greatestSet s, fits l t, e)
 
-  marks-told : (l : List ℕ) (set words : ℕ) → set ≤ fullSet → roomNeeded (P .n) ≤ words → T (legal P l) → markTold f (shown l) set words ≡ listMarked P l
+  marks-told : (l : List ℕ) (set words : ℕ) → set ≤ greatestSet → roomNeeded (P .n) ≤ words → T (legal P l) → markTold f (shown l) set words ≡ listMarked P l
   unfolding markTold markReply shown
   marks-told l set words s r t = read-fine f _ _ fine ∙ marks-by l set words s r t (ltb (length l) (P .n)) refl
 

@@ -7,7 +7,7 @@ use lib.Dec.{eqb, ltb}
 use lib.ListN.{getD, length}
 use Rattle.refusal.specs.declared.Verdict.the-variants.{Fine}
 use Rattle.refusal.specs.Told.{Told, replied, refused}
-use Rattle.rule_set.specs.RuleSet.{fullSet}
+use Rattle.rule_set.specs.RuleSet.{greatestSet}
 use Rattle.file_records.specs.Records.{verdictOf}
 use Rattle.game.specs.Problem.{Problem}
 use Rattle.game.specs.Calls.{Call, play, takeBack, standing}
@@ -35,4 +35,4 @@ abbrev pub Demand3 : (f : List ℕ) (fine : verdictOf f ≡ Fine) (calls : List 
 Demand3 f fine calls set words marks opened =
     let P = problemOf f fine in
     let l = standing P calls in
-    (set ≤ fullSet → roomNeeded (P .n) ≤ words → marks ≡ listMarked P l) × (opened ≡ listOpened P l)
+    (set ≤ greatestSet → roomNeeded (P .n) ≤ words → marks ≡ listMarked P l) × (opened ≡ listOpened P l)

@@ -15,7 +15,7 @@ use Rattle.refusal.specs.declared.Verdict.the-variants.{Refused as Not}
 use Rattle.refusal.specs.Told.{refusedAt}
 use Rattle.refusal.specs.Chain.{need}
 use Rattle.refusal.proofs.Chain.{go, stop, then-ok, need-ok}
-use Rattle.rule_set.specs.RuleSet.{isRuleSet, fullSet}
+use Rattle.rule_set.specs.RuleSet.{isRuleSet, greatestSet}
 use Rattle.file_layout.specs.Layout.{nOf}
 use Rattle.file_records.specs.Records.{verdictOf}
 use Rattle.problem_file.proofs.Accepted.{accepted}
@@ -37,17 +37,17 @@ use Rattle.host.specs.Replies.{heldRoom, kindOf, numberOf, placeOf, valu
 
 -- The tests on a position and a rule set.
 module _ (n : ℕ) (masks : List ℕ) (p : Position) (set : ℕ) where
-  rules-refused : fullSet < set → positionTest n masks p set ≡ Not 8 0
+  rules-refused : greatestSet < set → positionTest n masks p set ≡ Not 8 0
   unfolding positionTest isRuleSet need
-  rules-refused h = stop _ _ 8 0 (ap (λ (b : Bool). need b 8 0) (lt-leb set fullSet h))
+  rules-refused h = stop _ _ 8 0 (ap (λ (b : Bool). need b 8 0) (lt-leb set greatestSet h))
 
-  plays-refused : set ≤ fullSet → n < p .plays → positionTest n masks p set ≡ Not 23 0
+  plays-refused : set ≤ greatestSet → n < p .plays → positionTest n masks p set ≡ Not 23 0
   unfolding positionTest isRuleSet fitsIn need
-  plays-refused h k = go _ _ (need-ok _ _ _ (le-leb set fullSet h)) ∙ rw (lt-leb (p .plays) n k) refl
+  plays-refused h k = go _ _ (need-ok _ _ _ (le-leb set greatestSet h)) ∙ rw (lt-leb (p .plays) n k) refl
 
-  position-taken : set ≤ fullSet → T (fitsIn p n masks) → positionTest n masks p set ≡ Fine
+  position-taken : set ≤ greatestSet → T (fitsIn p n masks) → positionTest n masks p set ≡ Fine
   unfolding positionTest isRuleSet
-  position-taken h t = then-ok _ _ (need-ok _ _ _ (le-leb set fullSet h)) (need-ok _ _ _ (holds t))
+  position-taken h t = then-ok _ _ (need-ok _ _ _ (le-leb set greatestSet h)) (need-ok _ _ _ (holds t))
 
 -- The room that the entries hold is enough.
 room-held : (n : ℕ) → n ≤ 32 → roomTest n heldRoom ≡ Fine
@@ -80,26 +80,26 @@ module _ (f : List ℕ) (fine : verdictOf f ≡ Fine) (plays a b c d set : ℕ) 
   mark-by v e = read-fine f refusedAt (λ P. markReply P p set heldRoom) fine ∙ rw e refl
 
   -- A rule set above 127.
-  pub wide-rules : fullSet < set → (judged ≡ record { kind = 1; number = 8; place = 0; won = 0 }) × (marked ≡ record { kind = 1; number = 8; place = 0; winning = 0; domain = 0 })
+  pub wide-rules : greatestSet < set → (judged ≡ record { kind = 1; number = 8; place = 0; won = 0 }) × (marked ≡ record { kind = 1; number = 8; place = 0; winning = 0; domain = 0 })
   unfolding judgeTest markTest repliedFor judgementOf marksOf kindOf numberOf placeOf valueOf
   wide-rules h =
       let r = rules-refused (P .n) (P .domain) p set h in
       (ap judgementOf (judge-by (Not 8 0) (stop _ _ 8 0 r)), ap marksOf (mark-by (Not 8 0) (stop _ _ 8 0 r)))
 
   -- More plays than variables.
-  pub many-plays : set ≤ fullSet → nOf f < plays → (judged ≡ record { kind = 1; number = 23; place = 0; won = 0 }) × (marked ≡ record { kind = 1; number = 23; place = 0; winning = 0; domain = 0 })
+  pub many-plays : set ≤ greatestSet → nOf f < plays → (judged ≡ record { kind = 1; number = 23; place = 0; won = 0 }) × (marked ≡ record { kind = 1; number = 23; place = 0; winning = 0; domain = 0 })
   unfolding judgeTest markTest unpack repliedFor judgementOf marksOf kindOf numberOf placeOf valueOf
   many-plays h k =
       let r = plays-refused (P .n) (P .domain) p set h (omega (arith, problem-size f fine)) in
       (ap judgementOf (judge-by (Not 23 0) (stop _ _ 23 0 r)), ap marksOf (mark-by (Not 23 0) (stop _ _ 23 0 r)))
 
   -- Every position that fits is judged.
-  pub judges : set ≤ fullSet → T (fitsIn p (P .n) (P .domain)) → judged ≡ record { kind = 0; number = 0; place = 0; won = cond (verdict P (playsOf p)) 1 0 }
+  pub judges : set ≤ greatestSet → T (fitsIn p (P .n) (P .domain)) → judged ≡ record { kind = 0; number = 0; place = 0; won = cond (verdict P (playsOf p)) 1 0 }
   unfolding judgeTest repliedFor judgementOf kindOf numberOf placeOf valueOf
   judges h t = ap judgementOf (judge-by Fine (then-ok _ _ (position-taken (P .n) (P .domain) p set h t) (room-held (P .n) size)))
 
   -- And it is marked, where a variable is left to play.
-  pub marks : set ≤ fullSet → T (fitsIn p (P .n) (P .domain)) → plays < nOf f
+  pub marks : set ≤ greatestSet → T (fitsIn p (P .n) (P .domain)) → plays < nOf f
       → marked ≡ record { kind = 0; number = 0; place = 0; winning = winningValues P (playsOf p); domain = getD (P .domain) plays 0 }
   unfolding markTest unpack repliedFor marksOf kindOf numberOf placeOf valueOf
   marks h t k =

@@ -11,6 +11,8 @@ use mask::single;
 use mask::single_32;
 use position::Position;
 use problem_file::Header;
+use rule_set::Chosen;
+use rule_set::RuleSet;
 use tables::decode;
 use turn_rules::run_rules;
 
@@ -48,7 +50,7 @@ fn ruled(
     rows: &[u16; 15888],
     n: usize,
     universal: u32,
-    set: u8,
+    set: RuleSet,
     d: usize,
     w: &mut [u16; 128],
 ) -> u32
@@ -64,7 +66,7 @@ fn ruled_where(
     rows: &[u16; 15888],
     n: usize,
     universal: u32,
-    set: u8,
+    set: RuleSet,
     d: usize,
     w: &mut [u16; 128],
 ) -> u32
@@ -100,7 +102,7 @@ fn conflict_in(
     n: usize,
     universal: u32,
     domains: &[u16; 32],
-    set: u8,
+    set: RuleSet,
     p: Position,
 ) -> u32
     requires { ⌜ (n ≤ 32) × InRange (now index) × Stated n universal (now near) (now index) (now rows) ⌝ }
@@ -118,7 +120,7 @@ fn conflict_in(
 }
 
 // The conflict set after the plays of p, in a search from the start under this set; 0 where no loss is found.
-pub fn conflict_along(f: &[u8], p: Position, set: u8) -> u32 {
+fn conflict_under(f: &[u8], p: Position, set: RuleSet) -> u32 {
     let mut near = [0u32; 32];
     let mut index = [0u16; 1024];
     let mut rows = [0u16; 15888];
@@ -130,5 +132,14 @@ pub fn conflict_along(f: &[u8], p: Position, set: u8) -> u32 {
         Header::Accepted(n, _, _, u) => {
             conflict_in(&near, &index, &rows, n as usize, u, &d, set, p)
         }
+    }
+}
+
+// The same under the set of this number.
+pub fn conflict_along(f: &[u8], p: Position, set: usize) -> u32 {
+    let c = RuleSet::new(set);
+    match c {
+        Chosen::Refused(_) => 0,
+        Chosen::Set(s) => conflict_under(f, p, s),
     }
 }

@@ -25,6 +25,7 @@ pub use rule_bytes::call_set;
 pub use rule_bytes::stating;
 pub use rule_bytes::taken;
 pub use rule_bytes::used_words;
+pub use searches::is_won;
 pub use searches::searched;
 pub use sets::judges_under_all;
 pub use sets::marks_as_plain;

@@ -15,7 +15,7 @@ use Rattle.refusal.specs.declared.Verdict.the-variants.{Fine}
 use Rattle.refusal.specs.declared.Verdict.the-variants.{Refused as Not}
 use Rattle.refusal.specs.Told.{Told, replied, refused, refusedAt}
 use Rattle.refusal.proofs.Chain.{then-ok, need-ok}
-use Rattle.rule_set.specs.RuleSet.{isRuleSet, fullSet}
+use Rattle.rule_set.specs.RuleSet.{isRuleSet, greatestSet}
 use Rattle.file_layout.specs.declared.Rules.{Rules}
 use Rattle.file_layout.specs.Layout.{rulesOf}
 use Rattle.file_records.specs.Records.{verdictOf}
@@ -46,7 +46,7 @@ use Rattle.reporting.specs.Reporting.{problemText, reportOf, Holds, wonB
 
 -- ---- before any play the tests are fine
 
-module _ (P : Problem) (set : ℕ) (small : P .n ≤ 32) (rules : set ≤ fullSet) where
+module _ (P : Problem) (set : ℕ) (small : P .n ≤ 32) (rules : set ≤ greatestSet) where
   fresh-fits : T (fitsIn (shown []) (P .n) (P .domain))
   fresh-fits =
       legal-fits P (P .n) (P .domain) [] refl (sym (take-all (P .n) (P .domain) (omega (arith, P .sized))))
@@ -54,7 +54,7 @@ module _ (P : Problem) (set : ℕ) (small : P .n ≤ 32) (rules : set ≤ fullSe
 
   fresh-position : positionTest (P .n) (P .domain) (shown []) set ≡ Fine
   unfolding positionTest isRuleSet
-  fresh-position = then-ok _ _ (need-ok _ 8 0 (le-leb set fullSet rules)) (need-ok _ 23 0 (holds fresh-fits))
+  fresh-position = then-ok _ _ (need-ok _ 8 0 (le-leb set greatestSet rules)) (need-ok _ 23 0 (holds fresh-fits))
 
   fresh-room : roomTest (P .n) 4224 ≡ Fine
   unfolding roomTest
@@ -102,7 +102,7 @@ marks-in (Values w d) = refl
 marks-in (NoValues e) = refl
 marks-in (NoValuesAt e p) = refl
 
-module _ (f : List ℕ) (fine : verdictOf f ≡ Fine) (p : Position) (set words : ℕ) (fresh : p ≡ shown []) (long : words ≡ 4224) (rules : set ≤ fullSet) where
+module _ (f : List ℕ) (fine : verdictOf f ≡ Fine) (p : Position) (set words : ℕ) (fresh : p ≡ shown []) (long : words ≡ 4224) (rules : set ≤ greatestSet) where
   abbrev P : Problem
   P = problemOf f fine
 
@@ -152,7 +152,7 @@ accepted-text f n m rules u s set universal e g =
 pub accepted-holds : (f : List ℕ) (n m : ℕ) (rules : Rules) (u : ℕ) → Shows f n m rules u → (set : ℕ) (universal : Bool) → set ≡ rulesUsed rules → universal ≡ bit u 0
     → (l : List ℕ) (r : ℕ) (l' : List ℕ) → ReportsAccepted f n m set universal l r l' → Holds (reportOf f) l r l'
 accepted-holds f n m rules u s set universal e g l r l' h =
-    let k : set ≤ fullSet = set-most set (rw (e, s .set) (used-set f (s .fine))) in
+    let k : set ≤ greatestSet = set-most set (rw (e, s .set) (used-set f (s .fine))) in
     subst (λ (t : List ℕ). Holds t l r l') (accepted-text f n m rules u s set universal e g) (h (s .fine) k)
 
 -- The text of a refused one.

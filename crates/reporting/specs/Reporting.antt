@@ -5,7 +5,7 @@ use mathlib.Core.Bool.{Bool, true, false}
 use mathlib.Core.List.{List, [], _++_}
 use lib.ListN.{getD, length, drop}
 use Rattle.refusal.specs.declared.Verdict.the-variants.{Fine}
-use Rattle.rule_set.specs.RuleSet.{fullSet}
+use Rattle.rule_set.specs.RuleSet.{greatestSet}
 use Rattle.file_layout.specs.Layout.{mOf, rulesOf}
 use Rattle.file_records.specs.Records.{verdictOf}
 use Rattle.problem_file.specs.Used.{rulesUsed}
@@ -50,14 +50,14 @@ marksBy (NoValuesAt e p) = record { winning = 0; domain = 0 }
 
 -- Of an accepted file, under a rule set: its verdict, the marks of its first variable, its text.
 abbrev pub JudgesFirst : List ℕ → ℕ → Bool → Type 0
-JudgesFirst f set r = (fine : verdictOf f ≡ Fine) → set ≤ fullSet → r ≡ verdict (problemOf f fine) []
+JudgesFirst f set r = (fine : verdictOf f ≡ Fine) → set ≤ greatestSet → r ≡ verdict (problemOf f fine) []
 
 abbrev pub MarksFirst : List ℕ → ℕ → First → Type 0
 MarksFirst f set r =
-    (fine : verdictOf f ≡ Fine) → set ≤ fullSet
+    (fine : verdictOf f ≡ Fine) → set ≤ greatestSet
     → (r .winning ≡ winningValues (problemOf f fine) []) × (r .domain ≡ getD (problemOf f fine .domain) 0 0)
 
 abbrev pub ReportsAccepted : List ℕ → ℕ → ℕ → ℕ → Bool → List ℕ → ℕ → List ℕ → Type 0
 ReportsAccepted f n m set universal l r l' =
-    (fine : verdictOf f ≡ Fine) → set ≤ fullSet
+    (fine : verdictOf f ≡ Fine) → set ≤ greatestSet
     → Holds (replyText n m set (verdict (problemOf f fine) []) 0 universal (getD (problemOf f fine .domain) 0 0) (winningValues (problemOf f fine) [])) l r l'

@@ -15,7 +15,7 @@ use Rattle.file_layout.specs.Layout.{nOf}
 use Rattle.file_records.specs.Records.{verdictOf}
 use Rattle.game.specs.Problem.{Problem}
 use Rattle.game.specs.Calls.{Call}
-use Rattle.rule_set.specs.RuleSet.{fullSet}
+use Rattle.rule_set.specs.RuleSet.{greatestSet}
 use Rattle.search_run.specs.Run.{roomNeeded}
 use Rattle.session.specs.History.{reachedBy}
 use Rattle.small_problems.specs.Questions.{Question, answer}
@@ -98,7 +98,7 @@ unfoldable pub rowsPass : List Row → Bool
 rowsPass [] = true
 rowsPass (r ∷ rs) = passes r && rowsPass rs
 
-module _ (f : List ℕ) (fine : verdictOf f ≡ Fine) (set words : ℕ) (known : set ≤ fullSet) (enough : roomNeeded (nOf f) ≤ words) where
+module _ (f : List ℕ) (fine : verdictOf f ≡ Fine) (set words : ℕ) (known : set ≤ greatestSet) (enough : roomNeeded (nOf f) ≤ words) where
   abbrev P : Problem
   P = readOnce f fine
 

@@ -9,7 +9,7 @@ use Rattle.mask.proofs.Logic.{holds}
 use Rattle.refusal.specs.declared.Verdict.the-variants.{Fine}
 use Rattle.refusal.specs.Chain.{_then_, need}
 use Rattle.refusal.specs.Told.{Told, replied, refusedAt}
-use Rattle.rule_set.specs.RuleSet.{fullSet, isRuleSet}
+use Rattle.rule_set.specs.RuleSet.{greatestSet, isRuleSet}
 use Rattle.file_layout.specs.Layout.{nOf}
 use Rattle.file_records.specs.Records.{verdictOf}
 use Rattle.problem_file.specs.Reading.{headerOf}
@@ -44,7 +44,7 @@ plainly f P cs (arcLeaving l) = replied (arcList P l)
 plainly f P cs (pureAt x l) = pureReply P l x
 plainly f P cs (interchangeableAt x l) = interchangeableReply P l x
 
-module _ (f : List ℕ) (set words : ℕ) (fine : verdictOf f ≡ Fine) (known : set ≤ fullSet) (enough : roomNeeded (nOf f) ≤ words) where
+module _ (f : List ℕ) (set words : ℕ) (fine : verdictOf f ≡ Fine) (known : set ≤ greatestSet) (enough : roomNeeded (nOf f) ≤ words) where
   abbrev P : Problem
   P = problemOf f fine
 
@@ -62,7 +62,7 @@ module _ (f : List ℕ) (set words : ℕ) (fine : verdictOf f ≡ Fine) (known :
   judge-plain cs =
       let fits : fitsIn (reachedBy f cs) (P .n) (P .domain) ≡ true = holds (reached-fits f fine cs) in
       reads (λ Q. judgeReply Q (reachedBy f cs) set words)
-      ∙ rw (le-leb set fullSet known, fits, le-leb (roomNeeded (P .n)) words room, reached-plays f fine cs)
+      ∙ rw (le-leb set greatestSet known, fits, le-leb (roomNeeded (P .n)) words room, reached-plays f fine cs)
 
   pub answer-plain : (cs : List Call) (q : Question) → answer f set words (reachedBy f cs) q ≡ plainly f P cs q
   unfolding answer plainly arcTold arcLeft pureTold interchangeableTold

@@ -3,7 +3,7 @@ use Prim.Native.Nat.{ℕ, _≤_, _<_}
 use mathlib.Core.Path.{_≡_}
 use mathlib.Core.List.{List, [], _∷_}
 use lib.ListN.{getD}
-use Rattle.rule_set.specs.RuleSet.{fullSet}
+use Rattle.rule_set.specs.RuleSet.{greatestSet}
 use Rattle.file_layout.specs.Layout.{nOf}
 use Rattle.game.specs.Calls.{Call}
 use Rattle.search_run.specs.Run.{roomNeeded}
@@ -24,7 +24,7 @@ module _ (f : List ℕ) (set words : ℕ) where
 -- A row holds: its file is one of, and each question has its answer, under every rule set and in every room that is large enough.
 pub record Holds (r : Row) : Type 0 where
   pub bytes : (k : ℕ) → getD (r .file) k 0 < 256
-  pub answered : (set words : ℕ) → set ≤ fullSet → roomNeeded (nOf (r .file)) ≤ words → StagesHold (r .file) set words (r .stages)
+  pub answered : (set words : ℕ) → set ≤ greatestSet → roomNeeded (nOf (r .file)) ≤ words → StagesHold (r .file) set words (r .stages)
 
 unfoldable pub RowsHold : List Row → Type 0
 RowsHold [] = Unit {0}

@@ -9,6 +9,7 @@ use files::size;
 use files::written;
 use judged_cases::Answer;
 use judged_cases::after;
+use judged_cases::is_won;
 use judged_cases::judges;
 use judged_cases::judges_under_all;
 use judged_cases::marks_as_plain;
@@ -85,15 +86,16 @@ fn one_position(
     let p = after(picks, d);
     let q = misfit(p, n, kind);
     let won = wins(f, n, d, picks);
-    let r = searched(f, p, set as u8);
+    let r = searched(f, p, set);
+    let found = r.judged;
     let k = x.kinds;
     Trial {
         verdicts: judges_under_all(f, p, n, judged(won), x.verdicts),
         marks: marks_as_plain(f, n, d, picks, x.marks),
-        searches: counted(x.searches, r.won == won),
+        searches: counted(x.searches, is_won(found) == won),
         short: counted(x.short, judges(f, p, set, short, refused(12), 0)),
         misfits: counted(x.misfits, judges(f, q, set, lent, refused(23), 0)),
-        kinds: noted(k, d, won, hold_below(f, d, picks), r.lost),
+        kinds: noted(k, d, won, hold_below(f, d, picks), r.loss),
     }
 }
 

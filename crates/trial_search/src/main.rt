@@ -5,10 +5,11 @@ ghost use Prim.Native.Nat.{_≤_};
 
 mod sample;
 
+use judged_cases::is_won;
 use judged_cases::position_at;
 use judged_cases::searched;
+use judging::Searched;
 use refusal::both;
-use search_run::Ran;
 use vectors::Tally;
 use vectors::byte;
 use vectors::counted;
@@ -20,11 +21,11 @@ use vectors::report;
 use vectors::word;
 
 // The rules of the first turn lose as byte q says, and leave the n masks behind it; zeros follow.
-fn turn_agrees(s: &[u8], q: usize, n: usize, r: Ran) -> bool
+fn turn_agrees(s: &[u8], q: usize, n: usize, r: Searched) -> bool
     requires { ⌜ (q ≤ 2000000) × (n ≤ 256) ⌝ }
 {
     let list = r.list;
-    let mut ok = r.lost == (byte(s, q) == 1);
+    let mut ok = r.loss == (byte(s, q) == 1);
     let mut k = 0;
     while k < 32 {
         let m = if k < n { word(s, q + 1 + 2 * k) } else { 0 };
@@ -35,11 +36,12 @@ fn turn_agrees(s: &[u8], q: usize, n: usize, r: Ran) -> bool
 }
 
 // The search wins as byte q says, and its leaf has the n values behind it; zeros follow.
-fn search_agrees(s: &[u8], q: usize, n: usize, r: Ran) -> bool
+fn search_agrees(s: &[u8], q: usize, n: usize, r: Searched) -> bool
     requires { ⌜ (q ≤ 2000000) × (n ≤ 256) ⌝ }
 {
     let leaf = r.leaf;
-    let mut ok = r.won == (byte(s, q) == 1);
+    let judged = r.judged;
+    let mut ok = is_won(judged) == (byte(s, q) == 1);
     let mut k = 0;
     while k < 32 {
         let a = if k < n { byte(s, q + 1 + k) } else { 0 };
@@ -68,7 +70,7 @@ fn one_case(width: usize, s: &[u8], t: Tally) -> Tally {
     let q = p + 2 + plays;
     let next = moved(t, q + 1 + bytes_of(width, n));
     let position = position_at(s, p + 2, plays, plays);
-    let r = searched(f, position, byte(s, p) as u8);
+    let r = searched(f, position, byte(s, p));
     if width == 2 {
         return counted(next, turn_agrees(s, q, n, r));
     }

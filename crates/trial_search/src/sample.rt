@@ -4,6 +4,7 @@
 // of the loss must hold variable 1.
 ghost use Prim.Native.Nat.{_<_};
 use judged_cases::conflict_along;
+use judged_cases::is_won;
 use judged_cases::searched;
 use position::Position;
 use refusal::both;
@@ -88,14 +89,16 @@ fn holds_one(conflict: u32) -> bool {
 
 // Under this set 0, 1, 1 is lost with variable 1 in its conflict set, in a search from there and in one from the start, and 0, 0, 1
 // is won.
-fn blames_one(f: &[u8], set: u8) -> bool {
+fn blames_one(f: &[u8], set: usize) -> bool {
     let r = searched(f, after(1), set);
     let other = searched(f, after(0), set);
     let found = both(
         holds_one(r.conflict),
         holds_one(conflict_along(f, after(1), set)),
     );
-    both(both(r.won == false, other.won), found)
+    let first = r.judged;
+    let second = other.judged;
+    both(both(is_won(first) == false, is_won(second)), found)
 }
 
 pub fn all_sets() -> Tally {
