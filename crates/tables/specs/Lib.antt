@@ -1,6 +1,6 @@
 -- The problem that an accepted file states, and the tables that it is decoded into.
 
--- "Bit b of row a set: option a of choice i goes with option b of choice j"; "a pair without a table is free".
+-- The problem, of the reading's domains and universal variables and of what the look-up shows of two variables.
 pub mod FileProblem
 -- The arrays after so many constraints.
 pub mod Tables
