@@ -14,7 +14,7 @@ same-length : tie.Need-same-length
 same-length c = search needs
 
 returns : tie.Need-returns
-returns c = (c .ruled .ensures ∙ ap (asNumber 2) (c .before .before .arc .ensures .0), c .before .before .arc .ensures .1)
+returns c = (c .ruled .ensures ∙ ap (asNumber 2) (c .before .before .before .arc .ensures .0), c .before .before .before .arc .ensures .1)
 
 pub bench-arc-spec : {M : Type 1} → statement M
 bench-arc-spec = tie.close (tie.spec arc-requires ruled-requires same-length returns)

@@ -14,7 +14,7 @@ same-length : tie.Need-same-length
 same-length c = search needs
 
 returns : tie.Need-returns
-returns c = (c .ruled .ensures ∙ ap (asNumber 2) (c .before .before .forward-check .ensures .0), c .before .before .forward-check .ensures .1)
+returns c = (c .ruled .ensures ∙ ap (asNumber 2) (c .before .before .before .forward-check .ensures .0), c .before .before .before .forward-check .ensures .1)
 
 pub bench-forward-spec : {M : Type 1} → statement M
 bench-forward-spec = tie.close (tie.spec forward-check-requires ruled-requires same-length returns)
