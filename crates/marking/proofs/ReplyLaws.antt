@@ -118,5 +118,5 @@ marked-file f fine n universal near index rows D o m p long set w w' r j =
     let t = mark-same P n D z (o .domain) p set (length w) in (
       q .0 ∙ ap (λ (v : Verdict). repliedFor v (markedValues P set (playsOf p) ∷ getD (P .domain) (p .plays) 0 ∷ [])) t ∙ marked-values P p set (length w) (omega arith) long ∙ sym (read-fine f _ _ fine),
       q .1 ∙ ap (λ (v : Verdict). listFor v (zeroed 0 (roomNeeded n) w) w) t ∙ ap (λ (k : ℕ). listFor (markTest (P .n) (P .domain) p set (length w)) (zeroed 0 (roomNeeded k) w) w) (sym z)
-      ∙ sym (read-fine f _ _ fine),
+          ∙ sym (read-fine f _ _ fine),
     )

@@ -82,9 +82,7 @@ fn mark_in(
     let c = RuleSet::new(set);
     match c {
         Chosen::Refused(number) => Marked::Refused(number),
-        Chosen::Set(s) => {
-            mark_with(near, index, rows, n, universal, domains, p, s, room)
-        }
+        Chosen::Set(s) => { mark_with(near, index, rows, n, universal, domains, p, s, room) }
     }
 }
 

@@ -9,6 +9,9 @@ Inv-loop s q n leaf ok₀ k₀ ok k = k ≤ 32
 abbrev μ-loop : tie.MeasureT-loop
 μ-loop s q n leaf ok₀ k₀ ok k = 32 - k
 
+is-won-requires : tie.Need-is-won-requires Inv-loop μ-loop
+is-won-requires c κs = search needs
+
 byte-requires : tie.Need-byte-requires Inv-loop μ-loop
 byte-requires c κs = search needs
 
@@ -54,6 +57,7 @@ search-agrees-spec =
     (tie.spec
     Inv-loop
     μ-loop
+    is-won-requires
     byte-requires
     loop-holds
     add-byte
