@@ -32,7 +32,7 @@ leaf-of-requires : tie.Need-leaf-of-requires
 leaf-of-requires c κs = (c .before .before .before .before .before .before .before .before .before .before .before .before .pre .0, deep (c .before .before .before .before .before))
 
 zero-words-requires : tie.Need-zero-words-requires
-zero-words-requires c κs = (omega arith, deep (c .before .before .before .before .before .before .before))
+zero-words-requires c κs = (omega arith, omega (arith, deep (c .before .before .before .before .before .before .before)))
 
 conflict-of-requires : tie.Need-conflict-of-requires
 conflict-of-requires c κs = search needs
