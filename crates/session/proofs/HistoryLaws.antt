@@ -1,5 +1,5 @@
 -- Calls one after another: the position shows the plays that stand, and the replies are those of the plain list.
-use mathlib.Core.Path.{_≡_, refl, sym, ap, ap₂, _∙_}
+use mathlib.Core.Path.{_≡_, refl, sym, ap, _∙_}
 use mathlib.Core.Bool.{Bool, true, false, cond, _&&_}
 use mathlib.Core.List.{List, [], _∷_, _++_}
 use Prim.Native.Nat.{ℕ, _≤_}
@@ -14,7 +14,6 @@ use Rattle.refusal.specs.declared.Verdict.the-variants.{Fine}
 use Rattle.refusal.specs.Chain.{_then_, need}
 use Rattle.refusal.proofs.Chain.{need-ok}
 use Rattle.refusal.specs.Told.{replied, refused}
-use Rattle.file_layout.specs.Layout.{nOf}
 use Rattle.file_records.specs.Records.{verdictOf}
 use Rattle.problem_file.proofs.Accepted.{variables-most}
 use Rattle.game.specs.Problem.{Problem}
