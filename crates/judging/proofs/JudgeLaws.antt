@@ -31,7 +31,6 @@ use Rattle.position.proofs.Fitting.{fits-legal}
 use Rattle.turn_words.specs.TurnRoom.{zeroed}
 use Rattle.search_run.specs.declared.Ran.{Ran}
 use Rattle.search_run.specs.Run.{roomNeeded, Poses, Posed, Finds, Runs}
-use Rattle.judging.specs.declared.Judged.{Judged}
 use Rattle.judging.specs.declared.Judged.the-variants.{Won, Lost, Refused, RefusedAt}
 use Rattle.judging.specs.declared.Searched.{Searched}
 use Rattle.judging.specs.Tests.{judgeTest, placeTest}

@@ -19,7 +19,6 @@ use problem_file::Header;
 use refusal::Verdict;
 use rule_set::Chosen;
 use rule_set::RuleSet;
-use search_run::Ran;
 use search_run::run;
 use tables::decode;
 use tests::place_test;

@@ -1,18 +1,18 @@
 -- The loop over the values of the next variable: m is its domain, `left` what is left of it, `won` the values found to win.
 use mathlib.Core.Path.{_≡_, refl, sym, ap, ap₂, subst, _∙_}
-use mathlib.Core.Bool.{Bool, true, false, cond, not, _&&_, _||_}
+use mathlib.Core.Bool.{Bool, true, false, not, _&&_, _||_}
 use mathlib.Core.List.{List, [], _∷_, _++_}
 use mathlib.Core.Logic.{inr}
 use Prim.Native.Nat.{ℕ, _^_, _≤_, _<_}
 use native.Mathlib.Omega.{arith}
 use lib.Dec.{T, eqb}
-use lib.Bits.{bitOr, or-lt}
+use lib.Bits.{or-lt}
 use lib.Pow.{pow-lt}
-use lib.ListN.{getD, length, take}
+use lib.ListN.{getD, length}
 use lib.Seq.{ext-getD, getD-take}
 use borrow.Author.Tests.{eq-eqb, ne-eqb}
 use Rattle.mask.specs.Range.{first}
-use Rattle.mask.specs.Mask.{bit, maskOf, rest}
+use Rattle.mask.specs.Mask.{bit, rest}
 use Rattle.mask.proofs.Logic.{holds, and-out, by-eq, by-lt}
 use Rattle.mask.proofs.Bits.{bit-or, bit-single, bit-of-zero, bit-ext}
 use Rattle.mask.proofs.Masks.{maskOf-lt, bit-maskOf}

@@ -17,7 +17,6 @@ use Rattle.refusal.specs.Told.{Told, replied, refused, refusedAt}
 use Rattle.refusal.proofs.Chain.{then-ok, need-ok}
 use Rattle.rule_set.specs.RuleSet.{isRuleSet, greatestSet}
 use Rattle.file_layout.specs.declared.Rules.{Rules}
-use Rattle.file_layout.specs.Layout.{rulesOf}
 use Rattle.file_records.specs.Records.{verdictOf}
 use Rattle.rule_set.proofs.RuleSetLaws.{set-most}
 use Rattle.problem_file.specs.Used.{rulesUsed}

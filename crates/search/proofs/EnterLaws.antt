@@ -1,13 +1,13 @@
 -- What the rules of a turn and the narrowing of its variable leave together.
 use mathlib.Core.Path.{_≡_, refl, sym, ap, ap₂, subst, _∙_}
-use mathlib.Core.Bool.{Bool, true, false, cond, not, _&&_}
+use mathlib.Core.Bool.{Bool, true, false, not, _&&_}
 use mathlib.Core.List.{List}
 use Prim.Native.Nat.{ℕ, _+_, _*_, _≤_, _<_}
 use native.Mathlib.Omega.{arith}
-use lib.Dec.{T, eqb, ltb, leb}
+use lib.Dec.{T, eqb}
 use lib.ListN.{getD, length, length-set, List·getD-eq-default}
 use borrow.Author.Tests.{le-ltb, le-leb}
-use Rattle.mask.specs.Mask.{bit, maskOf}
+use Rattle.mask.specs.Mask.{bit}
 use Rattle.mask.proofs.Logic.{by-lt}
 use Rattle.game.specs.Problem.{Problem}
 use Rattle.game.specs.Rule.{uses}
@@ -17,9 +17,9 @@ use Rattle.theory.proofs.Lists.{getD-listOf}
 use Rattle.arrays.specs.Arrays.{States}
 use Rattle.arrays.specs.Words.{listIn, whyIn, leafIn, wordOf, holding}
 use Rattle.arrays.proofs.WordLaws.{getD-listIn, length-listIn, length-whyIn, length-holding, listIn-holding, whyIn-holding}
-use Rattle.narrow_rules.specs.Narrow.{Narrows, NarrowsNext}
-use Rattle.skip_rule.specs.Skip.{LeafSmall, Skips}
-use Rattle.turn_rules.specs.RuledTurn.{Plays, Replied, RuledTurn}
+use Rattle.narrow_rules.specs.Narrow.{NarrowsNext}
+use Rattle.skip_rule.specs.Skip.{Skips}
+use Rattle.turn_rules.specs.RuledTurn.{Replied}
 use Rattle.search.specs.TurnSteps.{Enters, LeavesUntried}
 use Rattle.search.proofs.ValueLaws.{untried-none, untried-off, untried-used}
 

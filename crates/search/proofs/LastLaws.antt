@@ -3,7 +3,7 @@ use mathlib.Core.Path.{_≡_, refl, sym, ap, subst, _∙_}
 use mathlib.Core.Bool.{Bool, true, false, cond}
 use mathlib.Core.List.{List}
 use mathlib.Core.Logic.{inl, inr}
-use Prim.Native.Nat.{ℕ, zero, _+_, _-_, _*_, _^_, _≤_, _<_}
+use Prim.Native.Nat.{ℕ, _+_, _-_, _^_, _≤_, _<_}
 use native.Mathlib.Omega.{arith}
 use lib.Dec.{T}
 use lib.Pow.{pow-mono}
@@ -14,8 +14,7 @@ use Rattle.game.specs.Problem.{Problem}
 use Rattle.game.specs.Game.{satisfied}
 use Rattle.game.specs.Position.{playOf}
 use Rattle.game.specs.Rule.{uses}
-use Rattle.game.specs.Search.{Verdict, solved, failed, handed, firstBroken, search}
-use Rattle.theory.specs.TurnList.{AtTurn}
+use Rattle.game.specs.Search.{solved, failed, handed, firstBroken, search}
 use Rattle.theory.proofs.Theorems as theorems
 use Rattle.arrays.specs.Arrays.{States}
 use Rattle.arrays.specs.Words.{listIn, whyIn, leafIn}

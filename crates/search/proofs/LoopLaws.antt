@@ -1,12 +1,11 @@
 -- What the loop of a turn keeps: x are the words when it starts.
 use mathlib.Core.Path.{_≡_, refl, sym, ap, subst, _∙_}
-use mathlib.Core.Bool.{Bool, true, false, cond, not, _&&_}
+use mathlib.Core.Bool.{Bool, false, not, _&&_}
 use mathlib.Core.List.{List, [], _∷_, _++_}
 use Prim.Native.Nat.{ℕ, suc, _+_, _-_, _^_, _≤_, _<_}
 use native.Mathlib.Omega.{arith}
 use lib.Dec.{T, eqb}
 use lib.Bits.{bitOr}
-use lib.ListN.{getD, length}
 use Rattle.mask.specs.Range.{first}
 use Rattle.mask.specs.Mask.{bit, rest}
 use Rattle.mask.proofs.Logic.{and-out, clash, by-eq, by-lt}

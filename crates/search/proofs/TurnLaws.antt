@@ -1,8 +1,8 @@
 -- One turn over its words: what its rules' reply makes of the game's search, and the turn below it.
 use mathlib.Core.Path.{_≡_, refl, sym, ap, ap₂, subst, _∙_}
-use mathlib.Core.Bool.{Bool, true, false, cond, not, _&&_}
+use mathlib.Core.Bool.{Bool, true, false, not, _&&_}
 use mathlib.Core.List.{List, [], _∷_, _++_}
-use Prim.Native.Nat.{ℕ, zero, suc, _+_, _-_, _^_, _≤_, _<_}
+use Prim.Native.Nat.{ℕ, suc, _+_, _-_, _<_}
 use native.Mathlib.Omega.{arith}
 use lib.Dec.{T, eqb}
 use lib.ListN.{getD, length}
@@ -10,11 +10,11 @@ use Rattle.mask.specs.Mask.{bit}
 use Rattle.mask.proofs.Logic.{clash}
 use Rattle.mask.proofs.Bits.{bit-of-zero}
 use Rattle.game.specs.Problem.{Problem}
-use Rattle.game.specs.Lists.{domains, narrowTo}
+use Rattle.game.specs.Lists.{domains}
 use Rattle.game.specs.Rule.{uses}
 use Rattle.game.specs.Turn.{nextList, reached}
 use Rattle.game.specs.Reasons.{Step, explained, nextReasons}
-use Rattle.game.specs.Search.{Verdict, solved, failed, handed, handUp, someValue, eachValue, skippable, startSet, narrowNext, search}
+use Rattle.game.specs.Search.{Verdict, failed, handed, handUp, someValue, eachValue, skippable, startSet, narrowNext, search}
 use Rattle.game.specs.Turns.{TurnOf, below, turnBelow}
 use Rattle.theory.proofs.Theorems as theorems
 use Rattle.theory.proofs.Lists.{lent-out}

@@ -72,15 +72,15 @@ pub fn last_turn(
 }
 
 // What the rules of a turn come to: a loss with its conflict set; or the values to try, and whether rules 4 and 5 narrowed them.
-pub struct Entered {
+struct Entered {
     pub lost: bool,
     pub conflict: u32,
     pub left: u16,
     pub narrowed: bool,
 }
 
-// The rules of a turn with variable d left, and its domain narrowed. Public for the first turn of a run.
-pub fn enter(
+// The rules of a turn with variable d left, and its domain narrowed.
+fn enter(
     near: &[u32; 32],
     index: &[u16; 1024],
     rows: &[u16; 15888],

@@ -27,7 +27,7 @@ use Rattle.position.proofs.Fitting.{length-plays, fits-legal}
 use Rattle.position.proofs.Narrowing.{written-list, written-other}
 use Rattle.turn_words.specs.TurnRoom.{withRun}
 use Rattle.turn_words.proofs.RoomLaws.{length-run, run-at, run-other, run-next}
-use Rattle.turn_words.proofs.ReasonBounds.{Below, below-in, below-out, first-below}
+use Rattle.turn_words.proofs.ReasonBounds.{Below, below-out, first-below}
 use Rattle.search.specs.TurnReply.{TurnIn}
 use Rattle.search_run.specs.FirstTurn.{ZeroBelow, filled, wordsFrom, ownReasons, FirstWords}
 use Rattle.search_run.specs.Run.{Poses}

@@ -6,17 +6,15 @@ use mathlib.Core.Logic.{inr}
 use Prim.Native.Nat.{ℕ, _+_, _-_, _*_, _≤_, _<_}
 use native.Mathlib.Omega.{arith}
 use lib.Dec.{T}
-use lib.ListN.{getD, length, take, drop, length-take, length-drop, List·getD-eq-default}
-use lib.Seq.{ext-getD, getD-take, getD-drop}
+use lib.ListN.{getD, length, take, drop, length-drop, List·getD-eq-default}
+use lib.Seq.{ext-getD, getD-drop}
 use borrow.Rule.Slice.PartAt.{part-to-end}
 use borrow.Rule.Slice.PartMut.{putMid, put-same}
 use Rattle.mask.proofs.Logic.{by-lt}
 use Rattle.game.specs.Problem.{Problem}
-use Rattle.game.specs.Lists.{listOf}
 use Rattle.game.specs.Turn.{firstList, reached}
 use Rattle.game.specs.Reasons.{firstReasons}
 use Rattle.game.specs.Search.{solved, failed, is-solved, search, searchFrom}
-use Rattle.theory.proofs.Lists.{length-listOf, getD-listOf}
 use Rattle.arrays.specs.Words.{listIn, leafIn}
 use Rattle.arrays.proofs.WordLaws.{length-leafIn, getD-leafIn}
 use Rattle.forward_rule.proofs.StepLaws.{listOf-same}
