@@ -19,7 +19,7 @@
    writes to memory that it was lent, so calls may run side by side on several threads.
 
    Stack: a call needs at most KB_STACK bytes below its caller's frame, whatever the file. The proof knows of no stack; host/stack.c
-   measures it (50,536 bytes at the deepest, 32 choices played one below another). */
+   measures it (50,836 bytes at the deepest, 32 choices played one below another). */
 #ifndef KICKBALLBOX_H
 #define KICKBALLBOX_H
 
