@@ -1,21 +1,16 @@
 // Judges stored cases. stdin: the number of games, then for each a file, plays, the verdict, the marks and the open values; behind
 // them the number of calls, then for each a file, a position, a kind of call with its argument and room, and what it answers.
 // Each game is judged under every rule set; of the calls those that judge are made. Behind them files with every RS byte, which are not
-// stored.
-ghost use Prim.Native.Nat.{_≤_, _<_};
+// stored, judged and marked.
+ghost use Prim.Native.Nat.{_≤_};
 use judged_cases::Answer;
 use judged_cases::Call;
-use judged_cases::after;
+use judged_cases::all_stating;
 use judged_cases::call_at;
-use judged_cases::call_set;
 use judged_cases::game_at;
 use judged_cases::judges;
 use judged_cases::judges_under_all;
 use judged_cases::refusal_of;
-use judged_cases::refused;
-use judged_cases::stating;
-use judged_cases::taken;
-use judged_cases::used_words;
 use judged_cases::verdict;
 use vectors::Tally;
 use vectors::byte;
@@ -81,43 +76,6 @@ fn all_calls(s: &[u8], start: usize) -> Tally {
     let mut k = 0;
     while k < count {
         t = one_call(s, t);
-        k += 1;
-    }
-    t
-}
-
-fn judged(f: &[u8], rules: usize, set: usize, t: Tally) -> Tally {
-    let used = used_words(rules, set);
-    let u = counted(
-        t,
-        judges(
-            f,
-            after(0, 0),
-            set,
-            256,
-            taken(rules, set, verdict(1)),
-            used,
-        ),
-    );
-    counted(
-        u,
-        judges(f, after(0, 1), set, 0, taken(rules, set, refused(23)), 0),
-    )
-}
-
-// A file with this RS byte: judged from the fresh position, and from one whose play is outside its mask, without room.
-fn one_stating(rules: usize, set: usize, t: Tally) -> Tally
-    requires { ⌜ rules < 256 ⌝ }
-{
-    let f = stating(rules);
-    judged(&f, rules, set, t)
-}
-
-fn all_stating() -> Tally {
-    let mut t = none_yet();
-    let mut k = 0;
-    while k < 1024 {
-        t = one_stating(k / 4, call_set(k % 4), t);
         k += 1;
     }
     t

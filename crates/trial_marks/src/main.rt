@@ -1,21 +1,15 @@
 // Marks stored cases. stdin: the number of games, then for each a file, plays, the verdict, the marks and the open values; behind
 // them the number of calls, then for each a file, a position, a kind of call with its argument and room, and what it answers.
 // Each game is marked under every rule set, and with one word of room too few; of the calls those that mark are made.
-// Behind them files with every RS byte, which are not stored.
-ghost use Prim.Native.Nat.{_≤_, _<_};
+ghost use Prim.Native.Nat.{_≤_};
 use judged_cases::Answer;
 use judged_cases::Call;
-use judged_cases::after;
 use judged_cases::call_at;
-use judged_cases::call_set;
 use judged_cases::game_at;
 use judged_cases::marks;
 use judged_cases::marks_under_all;
 use judged_cases::refusal_of;
 use judged_cases::refused;
-use judged_cases::stating;
-use judged_cases::taken;
-use judged_cases::used_words;
 use judged_cases::values;
 use plain_game::domain;
 use vectors::Tally;
@@ -118,43 +112,6 @@ fn all_calls(s: &[u8], start: usize) -> Tally {
     t
 }
 
-fn marked_stating(f: &[u8], rules: usize, set: usize, t: Tally) -> Tally {
-    let used = used_words(rules, set);
-    let u = counted(
-        t,
-        marks(
-            f,
-            after(0, 0),
-            set,
-            256,
-            taken(rules, set, values(32, 32)),
-            used,
-        ),
-    );
-    counted(
-        u,
-        marks(f, after(0, 1), set, 0, taken(rules, set, refused(23)), 0),
-    )
-}
-
-// A file with this RS byte: marked in the fresh position, and in one whose play is outside its mask, without room.
-fn one_stating(rules: usize, set: usize, t: Tally) -> Tally
-    requires { ⌜ rules < 256 ⌝ }
-{
-    let f = stating(rules);
-    marked_stating(&f, rules, set, t)
-}
-
-fn all_stating() -> Tally {
-    let mut t = none_yet();
-    let mut k = 0;
-    while k < 1024 {
-        t = one_stating(k / 4, call_set(k % 4), t);
-        k += 1;
-    }
-    t
-}
-
 fn main() {
     let mut room = [0u8; 327680];
     let n = io::read_full(0, &mut room);
@@ -164,5 +121,4 @@ fn main() {
     report(b"games under all sets ", t);
     report(b"room one word short ", games.short);
     report(b"mark calls ", all_calls(s, t.at));
-    report(b"files with every RS ", all_stating());
 }

@@ -1,7 +1,7 @@
 use Prim.Native.Nat.{_≤_, _-_}
 use borrow.Author.Needs.{needs}
-use Rattle.trial_marks.proofs.all_stating.Statement.{statement}
-use Rattle.trial_marks.proofs.all_stating.Tie as tie
+use Rattle.judged_cases.proofs.rule_bytes.all_stating.Statement.{statement}
+use Rattle.judged_cases.proofs.rule_bytes.all_stating.Tie as tie
 
 abbrev Inv-loop : tie.InvT-loop
 Inv-loop t₀ k₀ t k = k ≤ 1024
