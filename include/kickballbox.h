@@ -18,8 +18,8 @@
    A field that the kind says nothing of is zero. No function keeps anything from call to call, takes memory from the heap or
    writes to memory that it was lent, so calls may run side by side on several threads.
 
-   Stack: a call needs at most KB_STACK bytes below its caller's frame, whatever the file. The proof knows of no stack; host/stack.c
-   measures it (50,836 bytes at the deepest, 32 choices played one below another). */
+   Stack: give a call KB_STACK bytes below its caller's frame, whatever the file. The measured need is less: the proof knows of no
+   stack; host/stack.c measures it (MEASURED bytes at the deepest, 32 choices played one below another). */
 #ifndef KICKBALLBOX_H
 #define KICKBALLBOX_H
 
@@ -34,7 +34,7 @@ extern "C" {
 #define KB_REFUSED 1
 #define KB_REFUSED_AT 2
 
-#define KB_STACK 65536
+#define KB_STACK 131072
 
 /* What a file says. Bit k of `universal` is set where choice k is the day's; bit a of domains[k] where option a is in the mask
    of choice k. From n on both are zero. */

@@ -1,9 +1,9 @@
 //! Reading, judging and marking of job files, by the proved solver's C entries (`include/kickballbox.h`).
 //!
-//! Every function is total: any bytes, any position, any rule set. A call needs 64 KiB of stack (`STACK`).
+//! Every function is total: any bytes, any position, any rule set. Give a call 128 KiB of stack (`STACK`); the measured need is less.
 
-/// The stack that a call needs, in bytes.
-pub const STACK: usize = 65536;
+/// The stack to give a call, in bytes: `KB_STACK` of the header.
+pub const STACK: usize = 131072;
 
 /// Why a call was turned away, by document 01's numbers.
 #[derive(Clone, Copy, Debug, PartialEq, Eq)]

@@ -8,8 +8,10 @@ use native.Mathlib.Omega.{arith}
 use Rattle.file_layout.specs.declared.Rules.{Rules}
 use Rattle.file_layout.specs.declared.Rules.the-variants.{Absent, Given}
 use Rattle.file_layout.specs.Layout.{CT, EN}
-use Rattle.file_bytes.specs.Bytes.{stored, markBytes, wordBytes, qpBytes, rsBytes, headBytes, variableMark, variableBytes, variablesBytes, pairBytes, rowsBytes, constraintBytes, constraintsBytes, Numbers, bytesOf, startOf, lengthOf}
-use Rattle.file_bytes.proofs.Stored.{stored-more, stored-behind, length-joined, joined-stored}
+use Rattle.buffer.specs.Stored.{stored}
+use Rattle.file_bytes.specs.Bytes.{markBytes, wordBytes, qpBytes, rsBytes, headBytes, variableMark, variableBytes, variablesBytes, pairBytes, rowsBytes, constraintBytes, constraintsBytes, Handed, variablesIn, constraintsIn, domainIn, oneIn, twoIn, rowHanded, bytesOf, startOf, lengthOf}
+use Rattle.mask.specs.Mask.{bit}
+use Rattle.buffer.proofs.StoredLaws.{stored-more, stored-behind, InRow, row-of-width, length-joined, joined-stored}
 
 -- ---- lengths
 
@@ -28,21 +30,21 @@ unfolding headBytes qpBytes rsBytes startOf markBytes wordBytes
 length-head n m Absent = refl
 length-head n m (Given k) = refl
 
--- A variable takes 4 bytes, k variables 4 * k.
+-- A variable takes 4 bytes, a row 2, a constraint 36, of which 4 are its mark and pair; each stands so far behind the one before it.
 pub length-variable : (universal : Bool) (domain : ℕ) → length (variableBytes universal domain) ≡ 4
 unfolding variableBytes markBytes wordBytes
 length-variable universal domain = refl
 
-pub length-variables : (universal : ℕ → Bool) (domain : ℕ → ℕ) (k : ℕ) → length (variablesBytes universal domain k) ≡ 4 * k
-unfolding variablesBytes
-length-variables universal domain k = length-joined (λ i. variableBytes (universal i) (domain i)) 4 (λ i. length-variable (universal i) (domain i)) k
+pub variables-row : (universal : ℕ → Bool) (domain : ℕ → ℕ) (p k : ℕ) → InRow (λ i. variableBytes (universal i) (domain i)) p (λ i. p + 4 * i) k
+variables-row universal domain = row-of-width (λ i. variableBytes (universal i) (domain i)) 4 (λ i. length-variable (universal i) (domain i))
 
--- A row takes 2 bytes.
-pub length-rows : (row : ℕ → ℕ) (k : ℕ) → length (rowsBytes row k) ≡ 2 * k
+pub rows-row : (row : ℕ → ℕ) (p k : ℕ) → InRow (λ a. wordBytes (row a)) p (λ a. p + 2 * a) k
+rows-row row = row-of-width (λ a. wordBytes (row a)) 2 (λ a. length-word (row a))
+
+length-rows : (row : ℕ → ℕ) (k : ℕ) → length (rowsBytes row k) ≡ 2 * k
 unfolding rowsBytes
-length-rows row k = length-joined (λ a. wordBytes (row a)) 2 (λ a. length-word (row a)) k
+length-rows row k = omega (arith, length-joined _ 0 _ k (rows-row row 0 k))
 
--- A constraint takes 36 bytes, of which 4 are its mark and pair.
 pub length-pair : (m : List ℕ) (i j : ℕ) → length (markBytes m ++ pairBytes i j) ≡ 4
 unfolding markBytes pairBytes
 length-pair m i j = refl
@@ -51,19 +53,12 @@ pub length-constraint : (i j : ℕ) (row : ℕ → ℕ) → length (constraintBy
 unfolding constraintBytes
 length-constraint i j row = length-append (markBytes CT ++ pairBytes i j) (rowsBytes row 16) ∙ omega (arith, length-pair CT i j, length-rows row 16)
 
-pub length-constraints : (one two : ℕ → ℕ) (row : ℕ → ℕ → ℕ) (k : ℕ) → length (constraintsBytes one two row k) ≡ 36 * k
-unfolding constraintsBytes
-length-constraints one two row k =
-    length-joined (λ t. constraintBytes (one t) (two t) (row t)) 36 (λ t. length-constraint (one t) (two t) (row t)) k
+pub constraints-row : (one two : ℕ → ℕ) (row : ℕ → ℕ → ℕ) (p k : ℕ) → InRow (λ t. constraintBytes (one t) (two t) (row t)) p (λ t. p + 36 * t) k
+constraints-row one two row = row-of-width (λ t. constraintBytes (one t) (two t) (row t)) 36 (λ t. length-constraint (one t) (two t) (row t))
 
 -- ---- where the parts of a file begin
 
 -- The variables begin at 5, or at 8 behind a rule set.
-pub start-most : (r : Rules) → startOf r ≤ 8
-unfolding startOf
-start-most Absent = omega arith
-start-most (Given k) = omega arith
-
 pub start-least : (r : Rules) → 5 ≤ startOf r
 unfolding startOf
 start-least Absent = omega arith
@@ -73,29 +68,47 @@ pub start-given : (r : Rules) (k : ℕ) → r ≡ Given k → startOf r ≡ 8
 unfolding startOf
 start-given r k e = rw e
 
-module _ (x : Numbers) where
+module _ (h : Handed) where
+  abbrev headIn : List ℕ
+  headIn = headBytes (h .n) (h .m) (h .rules)
+
   -- The variables end where the constraints begin.
-  pub length-front : length (headBytes (x .n) (x .m) (x .rules) ++ variablesBytes (x .universal) (x .domain) (x .n)) ≡ startOf (x .rules) + 4 * x .n
+  pub length-front : length (headIn ++ variablesIn h) ≡ startOf (h .rules) + 4 * h .n
+  unfolding variablesBytes
   length-front =
-      length-append (headBytes (x .n) (x .m) (x .rules)) (variablesBytes (x .universal) (x .domain) (x .n))
-      ∙ omega (arith, length-head (x .n) (x .m) (x .rules), length-variables (x .universal) (x .domain) (x .n))
+      length-append headIn (variablesIn h)
+      ∙ omega (arith, length-head (h .n) (h .m) (h .rules), length-joined _ _ _ _ (variables-row (bit (h .universal)) (domainIn (h .domains)) (startOf (h .rules)) (h .n)))
 
   -- The constraints end where `EN` begins.
-  pub length-body :
-      length ((headBytes (x .n) (x .m) (x .rules) ++ variablesBytes (x .universal) (x .domain) (x .n)) ++ constraintsBytes (x .one) (x .two) (x .row) (x .m))
-      ≡ startOf (x .rules) + 4 * x .n + 36 * x .m
+  pub length-body : length ((headIn ++ variablesIn h) ++ constraintsIn h) ≡ startOf (h .rules) + 4 * h .n + 36 * h .m
+  unfolding constraintsBytes
   length-body =
-      length-append (headBytes (x .n) (x .m) (x .rules) ++ variablesBytes (x .universal) (x .domain) (x .n)) (constraintsBytes (x .one) (x .two) (x .row) (x .m))
-      ∙ omega (arith, length-front, length-constraints (x .one) (x .two) (x .row) (x .m))
+      let q = startOf (h .rules) + 4 * h .n in
+      length-append (headIn ++ variablesIn h) (constraintsIn h)
+      ∙ omega (arith, length-front, length-joined _ _ _ _ (constraints-row (oneIn (h .constraints)) (twoIn (h .constraints)) (rowHanded (h .constraints)) q (h .m)))
 
   -- "The length is 7 + 4n + 36m, plus 3 with `RS`."
-  pub length-bytes : length (bytesOf x) ≡ lengthOf (x .n) (x .m) (x .rules)
+  pub length-bytes : length (bytesOf h) ≡ lengthOf h
   unfolding bytesOf lengthOf
-  length-bytes =
-      length-append
-      ((headBytes (x .n) (x .m) (x .rules) ++ variablesBytes (x .universal) (x .domain) (x .n)) ++ constraintsBytes (x .one) (x .two) (x .row) (x .m))
+  length-bytes = length-append ((headIn ++ variablesIn h) ++ constraintsIn h) (markBytes EN) ∙ omega (arith, length-body, length-mark EN)
+
+  -- The four parts of a file, stored one behind another.
+  pub all-stored : (l : List ℕ) →
+      stored
+      (stored
+      (stored (stored l 0 headIn) (startOf (h .rules)) (variablesIn h))
+      (startOf (h .rules) + 4 * h .n)
+      (constraintsIn h))
+      (startOf (h .rules) + 4 * h .n + 36 * h .m)
       (markBytes EN)
-      ∙ omega (arith, length-body, length-mark EN)
+      ≡ stored l 0 (bytesOf h)
+  unfolding bytesOf
+  all-stored l =
+      let s = startOf (h .rules) in
+      let q = s + 4 * h .n in
+      ap (λ (z : List ℕ). stored (stored z q (constraintsIn h)) (q + 36 * h .m) (markBytes EN)) (stored-behind headIn (variablesIn h) l s (length-head (h .n) (h .m) (h .rules)))
+      ∙ ap (λ (z : List ℕ). stored z (q + 36 * h .m) (markBytes EN)) (stored-behind (headIn ++ variablesIn h) (constraintsIn h) l q length-front)
+      ∙ stored-behind ((headIn ++ variablesIn h) ++ constraintsIn h) (markBytes EN) l (q + 36 * h .m) length-body
 
 -- ---- a record behind those before it
 
@@ -117,13 +130,12 @@ variable-stored l i universal domain = stored-more (markBytes (variableMark univ
 pub variables-stored : (l : List ℕ) (i : ℕ) (universal : ℕ → Bool) (domain : ℕ → ℕ) (k : ℕ) →
     stored (stored l i (variablesBytes universal domain k)) (i + 4 * k) (variableBytes (universal k) (domain k)) ≡ stored l i (variablesBytes universal domain (suc k))
 unfolding variablesBytes
-variables-stored l i universal domain k =
-    joined-stored (λ i. variableBytes (universal i) (domain i)) 4 (λ i. length-variable (universal i) (domain i)) l i k
+variables-stored l i universal domain k = joined-stored _ i _ k (variables-row universal domain i k) l
 
 pub rows-stored : (l : List ℕ) (i : ℕ) (row : ℕ → ℕ) (k : ℕ) →
     stored (stored l i (rowsBytes row k)) (i + 2 * k) (wordBytes (row k)) ≡ stored l i (rowsBytes row (suc k))
 unfolding rowsBytes
-rows-stored l i row k = joined-stored (λ a. wordBytes (row a)) 2 (λ a. length-word (row a)) l i k
+rows-stored l i row k = joined-stored _ i _ k (rows-row row i k) l
 
 -- A mark, a pair and 16 rows; one more constraint.
 pub constraint-stored : (l : List ℕ) (p i j : ℕ) (row : ℕ → ℕ) →
@@ -136,25 +148,4 @@ constraint-stored l p i j row =
 pub constraints-stored : (l : List ℕ) (i : ℕ) (one two : ℕ → ℕ) (row : ℕ → ℕ → ℕ) (k : ℕ) →
     stored (stored l i (constraintsBytes one two row k)) (i + 36 * k) (constraintBytes (one k) (two k) (row k)) ≡ stored l i (constraintsBytes one two row (suc k))
 unfolding constraintsBytes
-constraints-stored l i one two row k =
-    joined-stored (λ t. constraintBytes (one t) (two t) (row t)) 36 (λ t. length-constraint (one t) (two t) (row t)) l i k
-
--- The four parts of a file, one behind another.
-pub all-stored : (l : List ℕ) (x : Numbers) →
-    stored
-    (stored
-    (stored (stored l 0 (headBytes (x .n) (x .m) (x .rules))) (startOf (x .rules)) (variablesBytes (x .universal) (x .domain) (x .n)))
-    (startOf (x .rules) + 4 * x .n)
-    (constraintsBytes (x .one) (x .two) (x .row) (x .m)))
-    (startOf (x .rules) + 4 * x .n + 36 * x .m)
-    (markBytes EN)
-    ≡ stored l 0 (bytesOf x)
-unfolding bytesOf
-all-stored l x =
-    let H = headBytes (x .n) (x .m) (x .rules) in
-    let S = variablesBytes (x .universal) (x .domain) (x .n) in
-    let C = constraintsBytes (x .one) (x .two) (x .row) (x .m) in
-    let s = startOf (x .rules) in
-    ap (λ (z : List ℕ). stored (stored z (s + 4 * x .n) C) (s + 4 * x .n + 36 * x .m) (markBytes EN)) (stored-behind H S l s (length-head (x .n) (x .m) (x .rules)))
-    ∙ ap (λ (z : List ℕ). stored z (s + 4 * x .n + 36 * x .m) (markBytes EN)) (stored-behind (H ++ S) C l (s + 4 * x .n) (length-front x))
-    ∙ stored-behind ((H ++ S) ++ C) (markBytes EN) l (s + 4 * x .n + 36 * x .m) (length-body x)
+constraints-stored l i one two row k = joined-stored _ i _ k (constraints-row one two row i k) l

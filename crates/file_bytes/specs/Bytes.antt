@@ -1,23 +1,15 @@
--- The bytes of a problem, record by record: what the writer writes. A problem's numbers are functions here, of a variable, of a
--- constraint, and of a row of a constraint; `numbersIn` takes them from the lists that the writer is handed.
-use Prim.Native.Nat.{ℕ, zero, suc, _+_, _*_, _/_, _%_}
+-- The bytes of a problem, record by record: what the writer writes. A record's numbers are functions here, of a variable, of a
+-- constraint, and of a row of a constraint; `bytesOf` takes them from what the writer is handed.
+use Prim.Native.Nat.{ℕ, _+_, _*_, _/_, _%_, _≤_}
 use mathlib.Core.Bool.{Bool, true, false}
 use mathlib.Core.List.{List, [], _∷_, _++_}
-use lib.ListN.{getD}
-use lib.Seq.{sets}
+use lib.ListN.{length, getD}
 use Rattle.mask.specs.Mask.{bit}
+use Rattle.buffer.specs.Stored.{joined}
 use Rattle.file_layout.specs.declared.Rules.{Rules}
 use Rattle.file_layout.specs.declared.Rules.the-variants.{Absent, Given}
+use Rattle.file_bytes.specs.declared.Numbers.{Numbers}
 use Rattle.file_layout.specs.Layout.{QP, RS, VE, VA, CT, EN}
-
--- l with the bytes vs from i on.
-unfoldable pub stored : List ℕ → ℕ → List ℕ → List ℕ
-stored l i vs = sets l i vs
-
--- The lists g 0, g 1 .. of the numbers below k, one behind another.
-unfoldable pub joined : (ℕ → List ℕ) → ℕ → List ℕ
-joined g zero = []
-joined g (suc k) = joined g k ++ g k
 
 unfoldable pub markBytes : List ℕ → List ℕ
 markBytes mark = getD mark 0 0 ∷ getD mark 1 0 ∷ []
@@ -62,32 +54,24 @@ constraintBytes i j row = (markBytes CT ++ pairBytes i j) ++ rowsBytes row 16
 unfoldable pub constraintsBytes : (ℕ → ℕ) → (ℕ → ℕ) → (ℕ → ℕ → ℕ) → ℕ → List ℕ
 constraintsBytes one two row = joined (λ t. constraintBytes (one t) (two t) (row t))
 
--- A problem's numbers: of variable i, of constraint t, and of row a of constraint t.
-pub record Numbers : Type 0 where
+-- ---- the numbers that the writer is handed
+
+-- n domains, and 18 numbers a constraint (i, j, its rows).
+pub record Handed : Type 0 where
   pub n : ℕ
   pub m : ℕ
   pub rules : Rules
-  pub universal : ℕ → Bool
-  pub domain : ℕ → ℕ
-  pub one : ℕ → ℕ
-  pub two : ℕ → ℕ
-  pub row : ℕ → ℕ → ℕ
+  pub universal : ℕ
+  pub domains : List ℕ
+  pub constraints : List ℕ
 
--- The whole file.
-unfoldable pub bytesOf : Numbers → List ℕ
-bytesOf x =
-    ((headBytes (x .n) (x .m) (x .rules) ++ variablesBytes (x .universal) (x .domain) (x .n)) ++ constraintsBytes (x .one) (x .two) (x .row) (x .m))
-    ++ markBytes EN
+abbrev pub handed : ℕ → ℕ → Rules → ℕ → List ℕ → List ℕ → Handed
+handed n m rules universal domains constraints =
+    record { n = n; m = m; rules = rules; universal = universal; domains = domains; constraints = constraints }
 
--- Where the variables begin, and "The length is 7 + 4n + 36m, plus 3 with `RS`".
-unfoldable pub startOf : Rules → ℕ
-startOf Absent = 5
-startOf (Given k) = 8
-
-unfoldable pub lengthOf : ℕ → ℕ → Rules → ℕ
-lengthOf n m rules = startOf rules + 4 * n + 36 * m + 2
-
--- ---- the numbers that the writer is handed: n domains, and 18 numbers a constraint (i, j, its rows)
+-- The two lists beside the other four numbers.
+abbrev pub handedWith : Numbers → List ℕ → List ℕ → Handed
+handedWith x domains constraints = handed (x .n) (x .m) (x .rules) (x .universal) domains constraints
 
 abbrev pub domainIn : List ℕ → ℕ → ℕ
 domainIn domains i = getD domains i 0
@@ -102,18 +86,31 @@ oneIn constraints t = getD constraints (18 * t) 0
 abbrev pub twoIn : List ℕ → ℕ → ℕ
 twoIn constraints t = getD constraints (18 * t + 1) 0
 
-abbrev pub rowIn : List ℕ → ℕ → ℕ → ℕ
-rowIn constraints t = from constraints (18 * t + 2)
+abbrev pub rowHanded : List ℕ → ℕ → ℕ → ℕ
+rowHanded constraints t = from constraints (18 * t + 2)
 
-abbrev pub numbersIn : ℕ → ℕ → Rules → ℕ → List ℕ → List ℕ → Numbers
-numbersIn n m rules universal domains constraints =
-    record {
-      n = n;
-      m = m;
-      rules = rules;
-      universal = bit universal;
-      domain = domainIn domains;
-      one = oneIn constraints;
-      two = twoIn constraints;
-      row = rowIn constraints;
-    }
+-- Counts in range, and lists as long as they say.
+pub record Sized (h : Handed) : Type 0 where
+  pub variables : h .n ≤ 32
+  pub pairs : h .m ≤ 496
+  pub masks : h .n ≤ length (h .domains)
+  pub rows : 18 * h .m ≤ length (h .constraints)
+
+-- ---- the whole file
+
+abbrev pub variablesIn : Handed → List ℕ
+variablesIn h = variablesBytes (bit (h .universal)) (domainIn (h .domains)) (h .n)
+
+abbrev pub constraintsIn : Handed → List ℕ
+constraintsIn h = constraintsBytes (oneIn (h .constraints)) (twoIn (h .constraints)) (rowHanded (h .constraints)) (h .m)
+
+unfoldable pub bytesOf : Handed → List ℕ
+bytesOf h = ((headBytes (h .n) (h .m) (h .rules) ++ variablesIn h) ++ constraintsIn h) ++ markBytes EN
+
+-- Where the variables begin, and "The length is 7 + 4n + 36m, plus 3 with `RS`".
+unfoldable pub startOf : Rules → ℕ
+startOf Absent = 5
+startOf (Given k) = 8
+
+unfoldable pub lengthOf : Handed → ℕ
+lengthOf h = startOf (h .rules) + 4 * h .n + 36 * h .m + 2

@@ -1,9 +1,10 @@
 // The records QP and RS, and where what is behind them begins.
 ghost use mathlib.Core.Path.{_≡_};
-ghost use Prim.Native.Nat.{_≤_};
+ghost use Prim.Native.Nat.{_+_, _*_, _≤_};
 ghost use lib.ListN.{length};
 ghost use Rattle.file_layout.specs.declared.Rules.the-variants.{Given};
-ghost use Rattle.file_bytes.specs.Bytes.{stored, qpBytes, rsBytes, headBytes, startOf, lengthOf};
+ghost use Rattle.buffer.specs.Stored.{stored};
+ghost use Rattle.file_bytes.specs.Bytes.{qpBytes, rsBytes, headBytes, startOf};
 use crate::put::put_mark;
 use crate::put::put_word;
 use file_layout::Rules;
@@ -21,7 +22,7 @@ pub fn start_of(rules: Rules) -> usize
 // How long the file is.
 pub fn length_of(n: usize, m: usize, rules: Rules) -> usize
     requires { ⌜ (n ≤ 32) × (m ≤ 496) ⌝ }
-    ensures { λ r. ⌜ r ≡ lengthOf n m rules ⌝ }
+    ensures { λ r. ⌜ r ≡ startOf rules + 4 * n + 36 * m + 2 ⌝ }
 {
     start_of(rules) + 4 * n + 36 * m + 2
 }

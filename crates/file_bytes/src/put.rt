@@ -2,7 +2,8 @@
 ghost use mathlib.Core.Path.{_≡_};
 ghost use Prim.Native.Nat.{_+_, _≤_};
 ghost use lib.ListN.{length};
-ghost use Rattle.file_bytes.specs.Bytes.{stored, markBytes, wordBytes, pairBytes};
+ghost use Rattle.buffer.specs.Stored.{stored};
+ghost use Rattle.file_bytes.specs.Bytes.{markBytes, wordBytes, pairBytes};
 
 // A number of two bytes, the low byte first.
 pub fn put_word(buf: &mut [u8], at: usize, w: u16)

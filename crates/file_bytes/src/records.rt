@@ -3,13 +3,15 @@ ghost use mathlib.Core.Path.{_≡_};
 ghost use Prim.Native.Nat.{_+_, _*_, _≤_, _<_};
 ghost use lib.ListN.{length};
 ghost use Rattle.mask.specs.Mask.{bit};
-ghost use Rattle.file_bytes.specs.Bytes.{stored, variableMark, variableBytes, variablesBytes, rowsBytes, constraintBytes, constraintsBytes, bytesOf, lengthOf, domainIn, oneIn, twoIn, rowIn, from, numbersIn};
+ghost use Rattle.buffer.specs.Stored.{stored};
+ghost use Rattle.file_bytes.specs.Bytes.{variableMark, variableBytes, variablesBytes, rowsBytes, constraintBytes, constraintsBytes};
+ghost use Rattle.file_bytes.specs.Bytes.{bytesOf, lengthOf, domainIn, oneIn, twoIn, rowHanded, from, handedWith, Sized};
+use crate::Numbers;
 use crate::head::put_head;
 use crate::head::start_of;
 use crate::put::put_mark;
 use crate::put::put_pair;
 use crate::put::put_word;
-use file_layout::Rules;
 use mask::contains_32;
 
 fn variable_mark(universal: bool) -> [u8; 2]
@@ -53,7 +55,8 @@ fn put_rows(buf: &mut [u8], at: usize, xs: &[u16], base: usize)
 // Constraint t.
 fn put_constraint(buf: &mut [u8], at: usize, xs: &[u16], t: usize)
     requires { ⌜ (at + 36 ≤ length (now buf)) × (18 * t + 18 ≤ length (now xs)) × (t ≤ 496) ⌝ }
-    ensures { λ _. ⌜ now (buf .exit) ≡ stored (now (buf .entry)) at (constraintBytes (oneIn (now (xs .entry)) t) (twoIn (now (xs .entry)) t) (rowIn (now (xs .entry)) t)) ⌝ }
+    ensures { λ _. ⌜ now (buf .exit) ≡ stored (now (buf .entry)) at
+        (constraintBytes (oneIn (now (xs .entry)) t) (twoIn (now (xs .entry)) t) (rowHanded (now (xs .entry)) t)) ⌝ }
 {
     put_mark(buf, at, b"CT");
     put_pair(buf, at + 2, xs[18 * t], xs[18 * t + 1]);
@@ -62,7 +65,8 @@ fn put_constraint(buf: &mut [u8], at: usize, xs: &[u16], t: usize)
 
 fn put_constraints(buf: &mut [u8], at: usize, m: usize, xs: &[u16])
     requires { ⌜ (at + 36 * m ≤ length (now buf)) × (18 * m ≤ length (now xs)) × (m ≤ 496) × (at ≤ 200) ⌝ }
-    ensures { λ _. ⌜ now (buf .exit) ≡ stored (now (buf .entry)) at (constraintsBytes (oneIn (now (xs .entry))) (twoIn (now (xs .entry))) (rowIn (now (xs .entry))) m) ⌝ }
+    ensures { λ _. ⌜ now (buf .exit) ≡ stored (now (buf .entry)) at
+        (constraintsBytes (oneIn (now (xs .entry))) (twoIn (now (xs .entry))) (rowHanded (now (xs .entry))) m) ⌝ }
 {
     let mut k = 0;
     while k < m {
@@ -71,22 +75,17 @@ fn put_constraints(buf: &mut [u8], at: usize, m: usize, xs: &[u16])
     }
 }
 
-pub fn put_all(
-    buf: &mut [u8],
-    n: usize,
-    m: usize,
-    rules: Rules,
-    universal: u32,
-    domains: &[u16],
-    constraints: &[u16],
-)
-    requires { ⌜ (lengthOf n m rules ≤ length (now buf)) × (n ≤ 32) × (m ≤ 496) × (n ≤ length (now domains)) × (18 * m ≤ length (now constraints)) ⌝ }
-    ensures { λ _. ⌜ now (buf .exit) ≡ stored (now (buf .entry)) 0 (bytesOf (numbersIn n m rules universal (now (domains .entry)) (now (constraints .entry)))) ⌝ }
+pub fn put_all(buf: &mut [u8], x: Numbers, domains: &[u16], constraints: &[u16])
+    requires { ⌜ Sized (handedWith x (now domains) (now constraints))
+        × (lengthOf (handedWith x (now domains) (now constraints)) ≤ length (now buf)) ⌝ }
+    ensures { λ _. ⌜ now (buf .exit) ≡ stored (now (buf .entry)) 0
+        (bytesOf (handedWith x (now (domains .entry)) (now (constraints .entry)))) ⌝ }
 {
+    let rules = x.rules;
     let s = start_of(rules);
-    let q = s + 4 * n;
-    put_head(buf, n, m, rules);
-    put_variables(buf, s, n, universal, domains);
-    put_constraints(buf, q, m, constraints);
-    put_mark(buf, q + 36 * m, b"EN");
+    let q = s + 4 * x.n;
+    put_head(buf, x.n, x.m, rules);
+    put_variables(buf, s, x.n, x.universal, domains);
+    put_constraints(buf, q, x.m, constraints);
+    put_mark(buf, q + 36 * x.m, b"EN");
 }

@@ -14,9 +14,9 @@ use Rattle.file_layout.specs.Layout.{nOf, mOf, variablesAt, domainAt, pairAt}
 use Rattle.file_layout.specs.Numbers.{pairOf, rowFits}
 use Rattle.file_layout.proofs.NumberLaws.{constraints-most}
 use Rattle.file_records.specs.Records.{verdictOf}
-use Rattle.problem_file.specs.Reading.{domainsOf}
-use Rattle.problem_file.proofs.Accepted.{accepted, read-domain}
-use Rattle.pair_lookup.proofs.Lookup.{ascend}
+use Rattle.file_reader.specs.Reading.{domainsOf}
+use Rattle.file_reader.proofs.Accepted.{accepted, read-domain}
+use Rattle.file_lookup.proofs.Lookup.{ascend}
 use Rattle.file_constraints.specs.Constraints.{constraintsAt, constraintOne, constraintTwo, constraintRow, Whole, Constraints}
 
 module _ (f : List ℕ) (fine : verdictOf f ≡ Fine) where

@@ -2,7 +2,7 @@
 -- constraint; and of an accepted file just what its constraints say.
 use Prim.Native.Nat.{ℕ, _+_, _*_, _<_}
 use mathlib.Core.Path.{_≡_, refl, sym, ap, _∙_}
-use mathlib.Core.Bool.{Bool, true, false, _&&_, _||_, and-comm}
+use mathlib.Core.Bool.{Bool, true, false, _&&_, and-comm}
 use mathlib.Core.List.{List, [], _∷_}
 use lib.Dec.{T, eqb}
 use native.Mathlib.Omega.{arith}
@@ -16,10 +16,10 @@ use Rattle.refusal.specs.Told.{Told, replied, refused, refusedAt}
 use Rattle.file_layout.specs.Layout.{nOf, mOf, rowAt, pairAt}
 use Rattle.file_layout.specs.Numbers.{pairOf}
 use Rattle.file_records.specs.Records.{verdictOf}
-use Rattle.problem_file.proofs.Accepted.{accepted}
-use Rattle.pair_lookup.specs.Lookup.{lookUp}
-use Rattle.pair_lookup.proofs.Lookup.{look-at, look-finds}
-use Rattle.pair_lookup.proofs.Shown.{word-shown}
+use Rattle.file_reader.proofs.Accepted.{accepted}
+use Rattle.file_lookup.specs.Lookup.{lookUp}
+use Rattle.file_lookup.proofs.Lookup.{look-at, look-finds}
+use Rattle.file_lookup.proofs.Shown.{word-shown}
 use Rattle.file_constraints.specs.Constraints.{constraintsAt, constraintOne, constraintTwo, constraintRow, joins, Whole}
 use Rattle.file_constraints.specs.Pairs.{found, allows, constrainedOf, compatibleOf}
 use Rattle.file_constraints.proofs.ConstraintLaws.{constraints-stand, constraint-below}

@@ -5,7 +5,7 @@ use mathlib.Core.List.{List, [], _∷_}
 use Rattle.mask.specs.Mask.{bit}
 use Rattle.refusal.specs.Told.{Told, replied, refused, refusedAt}
 use Rattle.file_layout.specs.Layout.{word}
-use Rattle.pair_lookup.specs.Lookup.{lookUp, rowsAt}
+use Rattle.file_lookup.specs.Lookup.{lookUp, rowsAt}
 
 -- The look-up tells of a constraint.
 unfoldable pub found : Told → Bool

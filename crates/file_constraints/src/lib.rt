@@ -1,5 +1,5 @@
-// The constraints of a file one by one, by their numbers: what the solver reads of an accepted file beside the reading's reply.
-// Every function here is for the other crates of this repository.
+// The constraints of a file one by one, by their numbers: what the solver reads of an accepted file beside the reading's reply. It
+// rests on `file_layout`, and its laws on what reader and look-up tell. Every function here is for `file_decoder`.
 ghost use mathlib.Core.Path.{_≡_};
 ghost use Prim.Native.Nat.{_<_};
 ghost use Rattle.file_constraints.specs.Constraints.{constraintsAt, constraintOne, constraintTwo, constraintRow, Whole};

@@ -10,7 +10,7 @@ use native.Mathlib.Omega.{arith}
 use borrow.Author.Tests.{le-leb, lt-leb}
 use Rattle.mask.proofs.Logic.{by-lt}
 use Rattle.file_layout.specs.Numbers.{pairOf}
-use Rattle.file_layout.specs.Layout.{word, marked, opened, RS, variablesAt, domainAt, rowAt, pairAt}
+use Rattle.file_layout.specs.Layout.{word, marked, opened, RS, variablesAt, domainAt, rowAt, pairAt, constraintsAt, afterConstraints, endAt}
 
 pub record SameFront (k : ℕ) (f g : List ℕ) : Type 0 where
   pub bytes : (p : ℕ) → p < k → getD f p 0 ≡ getD g p 0
@@ -22,7 +22,7 @@ take-front k f = record { bytes = λ p h. getD-take k f p 0 h; long = omega (ari
 
 module _ (k : ℕ) (f g : List ℕ) (s : SameFront k f g) where
   -- Places up to k that are reached, and those below k where a file has ended.
-  pub reach-front : (p : ℕ) → p ≤ k → leb p (length f) ≡ leb p (length g)
+  reach-front : (p : ℕ) → p ≤ k → leb p (length f) ≡ leb p (length g)
   reach-front p h =
       by-lt (length f) p
       (λ l. lt-leb p (length f) l ∙ sym (lt-leb p (length g) (omega (arith, s .long))))
@@ -49,6 +49,14 @@ module _ (k : ℕ) (f g : List ℕ) (s : SameFront k f g) where
   pub start-front : 7 ≤ k → variablesAt f ≡ variablesAt g
   unfolding variablesAt
   start-front h = ap (λ (b : Bool). cond b 8 5) (marked-front 5 RS h)
+
+  pub constraints-at-front : 7 ≤ k → constraintsAt f ≡ constraintsAt g
+  unfolding constraintsAt
+  constraints-at-front h = ap₂ (λ (b n : ℕ). b + 4 * n) (start-front h) (s .bytes 2 (omega arith))
+
+  pub end-at-front : 7 ≤ k → endAt f ≡ endAt g
+  unfolding endAt afterConstraints
+  end-at-front h = ap₂ (λ (q m : ℕ). q + 36 * m) (constraints-at-front h) (word-front 3 (omega arith))
 
   pub domain-front : (b i : ℕ) → b + 4 * i + 4 ≤ k → domainAt f b i ≡ domainAt g b i
   unfolding domainAt

@@ -1,6 +1,6 @@
--- Laws of the layout: what a mark and a record's beginning say, and where the variables begin.
-use Prim.Native.Nat.{ℕ, _+_, _≤_}
-use mathlib.Core.Path.{_≡_}
+-- Laws of the layout: what a mark and a record's beginning say, where the variables begin, and where the file ends.
+use Prim.Native.Nat.{ℕ, _+_, _*_, _≤_}
+use mathlib.Core.Path.{_≡_, refl}
 use mathlib.Core.Bool.{Bool, true, false, cond}
 use mathlib.Core.List.{List}
 use lib.ListN.{length, getD}
@@ -8,7 +8,8 @@ use native.Mathlib.Omega.{arith}
 use borrow.Author.Tests.{leb-true, le-leb, eqb-true}
 use Rattle.refusal.specs.declared.Verdict.the-variants.{Fine}
 use Rattle.refusal.proofs.Chain.{then-fine, need-fine, then-ok, need-ok, both-true}
-use Rattle.file_layout.specs.Layout.{marked, opened, hasRules, variablesAt}
+use Rattle.file_layout.specs.Layout.{marked, opened, nOf, mOf, hasRules, variablesAt, constraintsAt, afterConstraints, endAt}
+use Rattle.file_layout.proofs.NumberLaws.{Counts, constraints-most}
 
 -- The mark stands at p: its two bytes are there.
 pub record Mark (f : List ℕ) (p : ℕ) (m : List ℕ) : Type 0 where
@@ -37,14 +38,6 @@ opened-in f p right k h r =
     (then-ok _ _ (need-ok _ _ _ r) (need-ok _ _ _ (le-leb (p + 2 + k) (length f) h)))
 
 -- Where the variables begin.
-pub start-least : (f : List ℕ) → 5 ≤ variablesAt f
-unfolding variablesAt
-start-least f = go (hasRules f)
-  where
-    go : (t : Bool) → 5 ≤ cond t 8 5
-    go true = omega arith
-    go false = omega arith
-
 pub start-most : (f : List ℕ) → variablesAt f ≤ 8
 unfolding variablesAt
 start-most f = go (hasRules f)
@@ -52,3 +45,19 @@ start-most f = go (hasRules f)
     go : (t : Bool) → cond t 8 5 ≤ 8
     go true = omega arith
     go false = omega arith
+
+-- Where the file ends: behind its constraints, and nowhere behind 17,992.
+pub end-is : (f : List ℕ) → endAt f ≡ variablesAt f + 4 * nOf f + 36 * mOf f
+unfolding endAt afterConstraints constraintsAt
+end-is f = refl
+
+pub variables-before : (f : List ℕ) → variablesAt f + 4 * nOf f ≤ constraintsAt f
+unfolding constraintsAt
+variables-before f = omega arith
+
+pub end-behind : (f : List ℕ) → constraintsAt f + 36 * mOf f ≤ endAt f
+unfolding endAt afterConstraints
+end-behind f = omega arith
+
+pub end-most : (f : List ℕ) → Counts (nOf f) (mOf f) → endAt f ≤ 17992
+end-most f c = omega (arith, end-is f, start-most f, c .most, constraints-most (nOf f) (mOf f) c)

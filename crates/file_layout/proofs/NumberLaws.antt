@@ -1,12 +1,11 @@
 -- Laws of a problem's numbers: what the tests say, and what makes them hold. The reader and the writer share them.
-use Prim.Native.Nat.{ℕ, _+_, _-_, _*_, _/_, _≤_, _<_}
-use mathlib.Core.Path.{_≡_, ap, ap₂, _∙_}
+use Prim.Native.Nat.{ℕ, _-_, _*_, _/_, _≤_, _<_}
+use mathlib.Core.Path.{_≡_, ap}
 use mathlib.Core.Bool.{Bool, true}
 use native.Mathlib.Nat.{mul-le-mul}
 use native.Mathlib.Omega.{arith}
 use lib.Dec.{T, ltb}
 use borrow.Author.Tests.{leb-true, ltb-true, le-leb, lt-ltb}
-use Rattle.mask.specs.Range.{each}
 use Rattle.mask.proofs.Logic.{holds, true-holds}
 use Rattle.mask.proofs.Range.{each-out, each-in, each-eq}
 use Rattle.refusal.specs.declared.Verdict.the-variants.{Fine}

@@ -88,3 +88,7 @@ constraintsAt f = variablesAt f + 4 * nOf f
 
 unfoldable pub afterConstraints : List ℕ → ℕ
 afterConstraints f = constraintsAt f + 36 * mOf f
+
+-- The place behind the last record before `EN`.
+unfoldable pub endAt : List ℕ → ℕ
+endAt f = afterConstraints f

@@ -41,7 +41,7 @@ pub fn is_marked(f: &[u8], p: usize, mark: &[u8; 2]) -> bool
 
 // How every record begins: room for a mark, a mark that may stand here, a whole body of k bytes.
 pub fn opened_at(f: &[u8], p: usize, right: bool, k: usize) -> Verdict
-    requires { ⌜ (p ≤ 65535) × (k ≤ 64) ⌝ }
+    requires { ⌜ (p ≤ 65535) × (k ≤ 800) ⌝ }
     ensures { λ r. ⌜ r ≡ opened (now (f .entry)) p right k ⌝ }
 {
     if f.len() < p + 2 {

@@ -1,5 +1,5 @@
-// The layout of problem files (document 01, "The job file"): bytes, marks, what stands where, and the tests on numbers that
-// reader and writer share. Every function here is for the other crates of this repository.
+// The layout of problem files (document 01, "The job file"): bytes, marks, what stands where, and the tests on numbers that reader and
+// writer share. It rests on `mask` and `refusal`. Every function here is for the other crates of the file.
 mod bytes;
 mod numbers;
 mod places;

@@ -6,17 +6,16 @@ use mathlib.Core.List.{List}
 use lib.Dec.{eqb}
 use native.Mathlib.Omega.{arith}
 use Rattle.refusal.specs.declared.Verdict.{Verdict}
-use Rattle.refusal.specs.declared.Verdict.the-variants.{Fine}
 use Rattle.refusal.specs.Chain.{_then_, need, only}
 use Rattle.refusal.proofs.Chain.{then-same}
 use Rattle.rule_set.specs.RuleSet.{isRuleSet}
-use Rattle.file_layout.specs.Layout.{QP, RS, VE, VA, CT, EN, nOf, mOf, variablesAt, domainAt, oneAt, twoAt, rowAt}
+use Rattle.file_layout.specs.Layout.{QP, RS, VE, VA, CT, EN, nOf, mOf, variablesAt, domainAt, oneAt, twoAt, rowAt, constraintsAt, endAt}
 use Rattle.file_layout.specs.Numbers.{countsFit, constraintFits}
-use Rattle.file_layout.proofs.NumberLaws.{constraints-most, fits-eq}
-use Rattle.file_layout.proofs.LayoutLaws.{start-most}
-use Rattle.file_layout.proofs.FrontLaws.{SameFront, end-front, word-front, marked-front, opened-front, start-front, domain-front, row-front, pair-front}
+use Rattle.file_layout.proofs.NumberLaws.{fits-eq}
+use Rattle.file_layout.proofs.LayoutLaws.{variables-before, end-behind, end-most}
+use Rattle.file_layout.proofs.FrontLaws.{SameFront, end-front, word-front, marked-front, opened-front, start-front, constraints-at-front, end-at-front, domain-front, row-front, pair-front}
 use Rattle.file_records.specs.Records.{qpTest, rsTest, variableTest, variablesTest, constraintTest, lastPair, constraintsTest, enTest, restTest, verdictOf}
-use Rattle.file_records.proofs.RecordLaws.{Head, qp-out}
+use Rattle.file_records.proofs.RecordLaws.{qp-out}
 
 module _ (k : ℕ) (f g : List ℕ) (s : SameFront k f g) where
   qp-front : 5 ≤ k → qpTest f ≡ qpTest g
@@ -69,21 +68,29 @@ module _ (k : ℕ) (f g : List ℕ) (s : SameFront k f g) where
       ap₂ _then_ (opened-front k f g s p _ _ 0 (omega arith) (marked-front k f g s p EN (omega arith)))
       (ap (λ (b : Bool). need b 9 (p + 2)) (end-front k f g s (p + 2) h))
 
-  rest-front : (b n m : ℕ) → b + 4 * n + 36 * m + 2 < k → restTest f b n m ≡ restTest g b n m
+  -- Variables and constraints of the front's own numbers.
+  own-variables-front : 7 ≤ k → variablesAt g + 4 * nOf g ≤ k → variablesTest f (variablesAt f) (nOf f) ≡ variablesTest g (variablesAt g) (nOf g)
+  own-variables-front h l = ap₂ (variablesTest f) (start-front k f g s h) (s .bytes 2 (omega arith)) ∙ variables-front (variablesAt g) (nOf g) l
+
+  own-constraints-front : 7 ≤ k → variablesAt g + 4 * nOf g ≤ k → constraintsAt g + 36 * mOf g ≤ k →
+      constraintsTest f (variablesAt f) (nOf f) (constraintsAt f) (mOf f) ≡ constraintsTest g (variablesAt g) (nOf g) (constraintsAt g) (mOf g)
+  own-constraints-front h l r =
+      ap₂ (λ (b n : ℕ). constraintsTest f b n (constraintsAt f) (mOf f)) (start-front k f g s h) (s .bytes 2 (omega arith))
+      ∙ ap₂ (constraintsTest f (variablesAt g) (nOf g)) (constraints-at-front k f g s h) (word-front k f g s 3 (omega arith))
+      ∙ constraints-front (variablesAt g) (nOf g) (constraintsAt g) (mOf g) l r
+
+  rest-front : 7 ≤ k → endAt g + 2 < k → restTest f ≡ restTest g
   unfolding restTest
-  rest-front b n m h =
-      ap₂ _then_ (variables-front b n (omega arith))
-      (ap₂ _then_ (constraints-front b n (b + 4 * n) m (omega arith) (omega arith)) (en-front (b + 4 * n + 36 * m) h))
+  rest-front h l =
+      let e = end-behind g in
+      let v : variablesAt g + 4 * nOf g ≤ constraintsAt g = variables-before g in
+      ap₂ _then_ (own-variables-front h (omega arith))
+      (ap₂ _then_ (own-constraints-front h (omega arith) (omega arith)) (ap (enTest f) (end-at-front k f g s h) ∙ en-front (endAt g) l))
 
   -- What stands behind `QP` is looked at only where its counts are in range, and then no record ends behind byte 17,994.
-  behind-front : 17995 ≤ k → Head g → restTest f (variablesAt f) (nOf f) (mOf f) ≡ restTest g (variablesAt g) (nOf g) (mOf g)
-  behind-front h c =
-      ap (λ (b : ℕ). restTest f b (nOf f) (mOf f)) (start-front k f g s (omega arith))
-      ∙ ap₂ (λ (n m : ℕ). restTest f (variablesAt g) n m) (s .bytes 2 (omega arith)) (word-front k f g s 3 (omega arith))
-      ∙ rest-front (variablesAt g) (nOf g) (mOf g) (omega (arith, start-most g, c .counts .most, constraints-most (nOf g) (mOf g) (c .counts)))
-
   pub verdict-front : 17995 ≤ k → verdictOf f ≡ verdictOf g
   unfolding verdictOf
   verdict-front h =
-      ap (λ (v : Verdict). v then rsTest f then restTest f (variablesAt f) (nOf f) (mOf f)) (qp-front (omega arith))
-      ∙ then-same (qpTest g) _ _ (λ q. ap₂ _then_ (rs-front (omega arith)) (behind-front h (qp-out g q)))
+      ap (λ (v : Verdict). v then rsTest f then restTest f) (qp-front (omega arith))
+      ∙ then-same (qpTest g) _ _
+      (λ q. ap₂ _then_ (rs-front (omega arith)) (rest-front (omega arith) (omega (arith, end-most g (qp-out g q .counts)))))

@@ -1,36 +1,37 @@
 -- What a record's test that is fine says, and what makes it fine: a law out and a law in for each kind of record.
 use Prim.Native.Nat.{ℕ, zero, suc, _+_, _-_, _*_, _≤_, _<_}
 use mathlib.Core.Path.{_≡_, refl, sym, ap, _∙_}
-use mathlib.Core.Bool.{Bool, true, false, cond, _||_, not}
+use mathlib.Core.Bool.{Bool, true, false, _||_, not}
 use mathlib.Core.List.{List}
 use mathlib.Core.Logic.{⊎-elim}
-use lib.ListN.{length, getD}
+use lib.ListN.{length}
 use native.Mathlib.Omega.{arith}
 use native.Mathlib.Nat.{eq-or-lt-of-le, le-of-suc-le-suc}
-use borrow.Author.Tests.{leb-true, le-leb, eqb-true, eqb-false, ne-eqb, not-true}
+use borrow.Author.Tests.{leb-true, le-leb, eqb-false, ne-eqb, not-true}
 use Rattle.refusal.specs.declared.Verdict.{Verdict}
 use Rattle.refusal.specs.declared.Verdict.the-variants.{Fine}
-use Rattle.refusal.proofs.Chain.{then-fine, need-fine, then-ok, need-ok, so, not-so, both-true}
+use Rattle.refusal.specs.Chain.{_then_}
+use Rattle.refusal.proofs.Chain.{go, then-fine, need-fine, then-ok, need-ok, so, not-so}
 use Rattle.rule_set.specs.RuleSet.{isRuleSet}
-use Rattle.file_layout.specs.Layout.{byte, word, marked, QP, VE, VA, CT, EN, nOf, mOf, hasRules, variablesAt, domainAt, oneAt, twoAt, rowAt}
+use Rattle.file_layout.specs.Layout.{byte, word, marked, QP, VE, VA, CT, EN, nOf, mOf, hasRules, variablesAt, domainAt, oneAt, twoAt, rowAt, constraintsAt, afterConstraints, endAt}
 use Rattle.file_layout.proofs.LayoutLaws.{opened-out, opened-in}
-use Rattle.file_records.specs.Records.{qpTest, rsTest, variableTest, variablesTest, constraintTest, lastPair, constraintsTest, enTest}
+use Rattle.file_records.specs.Records.{qpTest, rsTest, variableTest, variablesTest, constraintTest, lastPair, constraintsTest, enTest, restTest, verdictOf}
 use Rattle.file_layout.proofs.NumberLaws.{Counts, counts-out, counts-in, Fits, fits-out, fits-in}
 
 -- QP.
-pub record Head (f : List ℕ) : Type 0 where
+pub record HeadRecord (f : List ℕ) : Type 0 where
   pub within : 5 ≤ length f
   pub mark : marked f 0 QP ≡ true
   pub counts : Counts (nOf f) (mOf f)
 
-pub qp-out : (f : List ℕ) → qpTest f ≡ Fine → Head f
+pub qp-out : (f : List ℕ) → qpTest f ≡ Fine → HeadRecord f
 unfolding qpTest
 qp-out f q =
     let a = then-fine _ _ q in
     let o = opened-out _ _ _ _ (a .0) in
     record { within = o .0; mark = o .1; counts = counts-out _ _ (need-fine _ _ _ (a .1)) }
 
-pub qp-in : (f : List ℕ) → Head f → qpTest f ≡ Fine
+pub qp-in : (f : List ℕ) → HeadRecord f → qpTest f ≡ Fine
 unfolding qpTest
 qp-in f h = then-ok _ _ (opened-in f 0 _ 3 (h .within) (h .mark)) (need-ok _ _ _ (counts-in _ _ (h .counts)))
 
@@ -52,7 +53,7 @@ pub record Variable (f : List ℕ) (p : ℕ) : Type 0 where
   pub mark : (marked f p VE || marked f p VA) ≡ true
   pub domain : word f (p + 2) ≡ 0 → ⊥
 
-pub variable-out : (f : List ℕ) (p : ℕ) → variableTest f p ≡ Fine → Variable f p
+variable-out : (f : List ℕ) (p : ℕ) → variableTest f p ≡ Fine → Variable f p
 unfolding variableTest
 variable-out f p q =
     let a = then-fine _ _ q in
@@ -63,7 +64,7 @@ variable-out f p q =
       domain = eqb-false _ _ (not-true _ (need-fine _ _ _ (a .1)));
     }
 
-pub variable-in : (f : List ℕ) (p : ℕ) → Variable f p → variableTest f p ≡ Fine
+variable-in : (f : List ℕ) (p : ℕ) → Variable f p → variableTest f p ≡ Fine
 unfolding variableTest
 variable-in f p v =
     then-ok _ _ (opened-in f p _ 2 (omega (arith, v .within)) (v .mark)) (need-ok _ _ _ (ap not (ne-eqb (word f (p + 2)) 0 (v .domain))))
@@ -94,14 +95,14 @@ pub record Constraint (f : List ℕ) (b n last p : ℕ) : Type 0 where
   pub mark : marked f p CT ≡ true
   pub fits : Fits (domainAt f b) n last (oneAt f p) (twoAt f p) (rowAt f p)
 
-pub constraint-out : (f : List ℕ) (b n last p : ℕ) → constraintTest f b n last p ≡ Fine → Constraint f b n last p
+constraint-out : (f : List ℕ) (b n last p : ℕ) → constraintTest f b n last p ≡ Fine → Constraint f b n last p
 unfolding constraintTest
 constraint-out f b n last p q =
     let a = then-fine _ _ q in
     let o = opened-out _ _ _ _ (a .0) in
     record { within = omega (arith, o .0); mark = o .1; fits = fits-out _ _ _ _ _ _ _ (a .1) }
 
-pub constraint-in : (f : List ℕ) (b n last p : ℕ) → Constraint f b n last p → constraintTest f b n last p ≡ Fine
+constraint-in : (f : List ℕ) (b n last p : ℕ) → Constraint f b n last p → constraintTest f b n last p ≡ Fine
 unfolding constraintTest
 constraint-in f b n last p t = then-ok _ _ (opened-in f p _ 34 (omega (arith, t .within)) (t .mark)) (fits-in _ _ _ _ _ _ _ (t .fits))
 
@@ -133,3 +134,14 @@ en-out f p q =
 pub en-in : (f : List ℕ) (p : ℕ) → length f ≡ p + 2 → marked f p EN ≡ true → enTest f p ≡ Fine
 unfolding enTest
 en-in f p e m = then-ok _ _ (opened-in f p _ 0 (omega arith) m) (need-ok _ _ _ (le-leb (length f) (p + 2) (omega arith)))
+
+-- The records behind `QP`, whose verdicts the code finds one by one.
+pub rest-is : (f : List ℕ) (b n m : ℕ) (v t e r : Verdict) → b ≡ variablesAt f → n ≡ nOf f → m ≡ mOf f → v ≡ variablesTest f b n → v ≡ Fine →
+    t ≡ constraintsTest f b n (b + 4 * n) m → e ≡ enTest f (b + 4 * n + 36 * m) → r ≡ (t then e) → r ≡ restTest f
+unfolding restTest constraintsAt endAt afterConstraints
+rest-is f b n m v t e r eb en em ev q et ee er = er ∙ rw (et, ee, eb, en, em) (sym (go _ _ (rw (← eb, ← en) (sym ev ∙ q))))
+
+-- The whole file, whose `QP` is fine.
+pub verdict-is : (f : List ℕ) (a r t v : Verdict) → a ≡ qpTest f → a ≡ Fine → r ≡ rsTest f → t ≡ restTest f → v ≡ (r then t) → v ≡ verdictOf f
+unfolding verdictOf
+verdict-is f a r t v ea q er et ev = ev ∙ rw (er, et) (sym (go _ _ (sym ea ∙ q)))

@@ -1,7 +1,7 @@
 -- Which files are accepted, record by record in the order of the file: "In a file, the earliest record decides; within it Short for
 -- the mark, Mark, Short for the body, then 3, 8, 4, 5, 6, 7 as they apply." The place is the record's first byte.
 use Prim.Native.Nat.{ℕ, zero, suc, _+_, _*_}
-use mathlib.Core.Bool.{Bool, true, _||_, not}
+use mathlib.Core.Bool.{true, _||_, not}
 use mathlib.Core.List.{List}
 use lib.ListN.{length}
 use lib.Dec.{leb, eqb}
@@ -9,7 +9,7 @@ use Rattle.refusal.specs.declared.Verdict.{Verdict}
 use Rattle.refusal.specs.declared.Verdict.the-variants.{Fine}
 use Rattle.refusal.specs.Chain.{_then_, need, only}
 use Rattle.rule_set.specs.RuleSet.{isRuleSet}
-use Rattle.file_layout.specs.Layout.{byte, word, marked, opened, QP, VE, VA, CT, EN, nOf, mOf, hasRules, variablesAt, domainAt, oneAt, twoAt, rowAt, pairAt}
+use Rattle.file_layout.specs.Layout.{byte, word, marked, opened, QP, VE, VA, CT, EN, nOf, mOf, hasRules, variablesAt, domainAt, oneAt, twoAt, rowAt, pairAt, constraintsAt, endAt}
 use Rattle.file_layout.specs.Numbers.{countsFit, constraintFits}
 
 -- `QP`.
@@ -44,10 +44,13 @@ constraintsTest f b n q (suc k) = constraintsTest f b n q k then constraintTest 
 unfoldable pub enTest : List ℕ → ℕ → Verdict
 enTest f p = opened f p (marked f p EN) 0 then need (leb (length f) (p + 2)) 9 (p + 2)
 
--- The records behind `QP` and `RS`, of n variables from b and m constraints.
-unfoldable pub restTest : List ℕ → ℕ → ℕ → ℕ → Verdict
-restTest f b n m = variablesTest f b n then constraintsTest f b n (b + 4 * n) m then enTest f (b + 4 * n + 36 * m)
+-- The records behind `QP` and `RS`.
+unfoldable pub restTest : List ℕ → Verdict
+restTest f =
+    variablesTest f (variablesAt f) (nOf f)
+    then constraintsTest f (variablesAt f) (nOf f) (constraintsAt f) (mOf f)
+    then enTest f (endAt f)
 
 -- The whole file.
 unfoldable pub verdictOf : List ℕ → Verdict
-verdictOf f = qpTest f then rsTest f then restTest f (variablesAt f) (nOf f) (mOf f)
+verdictOf f = qpTest f then rsTest f then restTest f

@@ -4,7 +4,7 @@ ghost use Prim.Native.Nat.{_+_, _*_, _≤_, _<_};
 ghost use lib.ListN.{length};
 ghost use Rattle.file_layout.specs.Layout.{domainAt, oneAt, twoAt, rowAt};
 ghost use Rattle.file_layout.specs.Numbers.{rowsFit, constraintFits};
-ghost use Rattle.file_records.specs.Records.{lastPair, constraintTest, constraintsTest};
+ghost use Rattle.file_records.specs.Records.{constraintTest, constraintsTest};
 use file_layout::byte_at;
 use file_layout::domain_at;
 use file_layout::in_order;
@@ -35,7 +35,8 @@ fn rows_fit(f: &[u8], p: usize, di: u16, dj: u16) -> bool
 
 fn body_test(f: &[u8], b: usize, n: usize, last: usize, p: usize) -> Verdict
     requires { ⌜ (p + 36 ≤ length (now f)) × (p ≤ 65535) × (b + 4 * n ≤ length (now f)) × (b ≤ 8) × (n ≤ 32) ⌝ }
-    ensures { λ r. ⌜ r ≡ constraintFits (domainAt (now (f .entry)) b) n last (oneAt (now (f .entry)) p) (twoAt (now (f .entry)) p) (rowAt (now (f .entry)) p) p ⌝ }
+    ensures { λ r. ⌜ r ≡ constraintFits (domainAt (now (f .entry)) b) n last (oneAt (now (f .entry)) p)
+        (twoAt (now (f .entry)) p) (rowAt (now (f .entry)) p) p ⌝ }
 {
     let i = byte_at(f, p + 2);
     let j = byte_at(f, p + 3);

@@ -10,7 +10,7 @@ use refusal::either;
 use refusal::first;
 use refusal::needed;
 
-pub fn variable_test(f: &[u8], p: usize) -> Verdict
+fn variable_test(f: &[u8], p: usize) -> Verdict
     requires { ⌜ p ≤ 65535 ⌝ }
     ensures { λ r. ⌜ r ≡ variableTest (now (f .entry)) p ⌝ }
 {

@@ -1,11 +1,11 @@
 -- Lists of masks: the form in which domains are lent, kept and replied.
 use mathlib.Core.Path.{_≡_}
 use mathlib.Core.Bool.{Bool, true, not, _&&_}
-use mathlib.Core.List.{List, [], _∷_}
-use Prim.Native.Nat.{ℕ, zero, suc, _^_, _<_}
+use mathlib.Core.List.{List, [], _∷_, _++_}
+use Prim.Native.Nat.{ℕ, zero, suc, _-_, _^_, _<_}
 use lib.Dec.{eqb}
 use lib.Bits.{bitAnd}
-use lib.ListN.{getD, length, set}
+use lib.ListN.{getD, length, set, replicate}
 use Rattle.mask.specs.Range.{each}
 use Rattle.mask.specs.Mask.{bit, maskOf}
 use Rattle.game.specs.Problem.{Problem}
@@ -22,6 +22,10 @@ listOf (suc n) f = f zero ∷ listOf n (λ i. f (suc i))
 
 unfoldable pub masksOf : ℕ → Domains → List ℕ
 masksOf n D = listOf n (λ i. maskOf 16 (D i))
+
+-- A list in 32 places, zero behind it: positions, open values and counts are kept and replied so.
+unfoldable pub spread : List ℕ → List ℕ
+spread l = l ++ replicate (32 - length l) 0
 
 -- A list of n masks of 16 bits.
 pub record Masks (n : ℕ) (l : List ℕ) : Type 0 where

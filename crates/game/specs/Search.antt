@@ -16,19 +16,19 @@ use Rattle.game.specs.Turn.{firstList, nextList, narrowPure, narrowInter
 use Rattle.game.specs.Reasons.{firstReasons, nextReasons, explained}
 
 -- A turn is won with a leaf, the values of all variables; or lost with a conflict set, a mask of variables.
-pub data Verdict : Type 0 where
-  solved : List ℕ → Verdict
-  failed : ℕ → Verdict
+pub data Ending : Type 0 where
+  solved : List ℕ → Ending
+  failed : ℕ → Ending
 
-abbrev pub is-solved : Verdict → Bool
+abbrev pub is-solved : Ending → Bool
 is-solved (solved q) = true
 is-solved (failed S) = false
 
-abbrev pub or-else : Verdict → (ℕ → Verdict) → Verdict
+abbrev pub or-else : Ending → (ℕ → Ending) → Ending
 or-else (solved q) h = solved q
 or-else (failed S) h = h S
 
-abbrev pub and-also : Verdict → (List ℕ → Verdict) → Verdict
+abbrev pub and-also : Ending → (List ℕ → Ending) → Ending
 and-also (solved q) h = h q
 and-also (failed S) h = failed S
 
@@ -36,13 +36,13 @@ and-also (failed S) h = failed S
 unfoldable pub handed : Bool → ℕ → ℕ → ℕ
 handed jump i S = maskOf i (λ j. not jump || bit S j)
 
-unfoldable pub handUp : Bool → ℕ → Verdict → Verdict
+unfoldable pub handUp : Bool → ℕ → Ending → Ending
 handUp jump i (solved q) = solved q
 handUp jump i (failed S) = failed (handed jump i S)
 
 -- The existential turn: v values are left, a is the next of the domain d, J joins the conflict sets so far; f is the turn below.
 -- "A shift's choice outside the set of an option's loss tries no further option and is lost with that set."
-unfoldable pub someValue : Bool → ℕ → ℕ → (ℕ → Verdict) → ℕ → ℕ → ℕ → Verdict
+unfoldable pub someValue : Bool → ℕ → ℕ → (ℕ → Ending) → ℕ → ℕ → ℕ → Ending
 someValue jump i d f zero a J = failed J
 someValue jump i d f (suc v) a J =
     let rest = someValue jump i d f v (suc a) J in
@@ -54,7 +54,7 @@ unfoldable pub untried : (ℕ → Bool) → ℕ → ℕ → ℕ
 untried skips a u = maskOf 16 (λ b. let s = skips b in ltb a b && (bit u b && not s))
 
 -- The universal turn: v values are left, a is the next, u holds the untried ones, q is the last leaf handed up.
-unfoldable pub eachValue : (List ℕ → ℕ → Bool) → (ℕ → Verdict) → ℕ → ℕ → ℕ → List ℕ → Verdict
+unfoldable pub eachValue : (List ℕ → ℕ → Bool) → (ℕ → Ending) → ℕ → ℕ → ℕ → List ℕ → Ending
 eachValue skips f zero a u q = solved q
 eachValue skips f (suc v) a u q =
     let rest = eachValue skips f v (suc a) u q in
@@ -79,7 +79,7 @@ module _ (P : Problem) where
 
   -- All variables are played: won with the play, or lost where a constraint is broken ("a lost leaf carries the two choices of its first
   -- broken table"), also where a rule found the loss.
-  unfoldable pub leaf : Bool → List ℕ → Verdict
+  unfoldable pub leaf : Bool → List ℕ → Ending
   leaf loss p = cond (not loss && satisfied compatible n (playOf p)) (solved p) (failed (firstBroken p))
 
   -- No constraint is broken by any values of the domains W.
@@ -107,19 +107,19 @@ module _ (P : Problem) where
       cond (eqb (getD e i 0) (getD l i 0)) (getD R i 0) (bitOr (getD R i 0) near)
 
   -- A turn after the plays p, of which those from c on are not yet checked, with k variables left; its list is l, with the reasons R.
-  unfoldable pub search : ℕ → ℕ → ℕ → List ℕ → List ℕ → List ℕ → Verdict
+  unfoldable pub search : ℕ → ℕ → ℕ → List ℕ → List ℕ → List ℕ → Ending
   search S c zero p l R = let o = explained P S c p l R in handUp (uses S 6) (length p) (leaf (o .loss) p)
   search S c (suc k) p l R =
       let i = length p in
       let o = explained P S c p l R in
       let e = narrowNext S i (o .list) .list in
-      let f : ℕ → Verdict = λ a. search S i k (p ++ (a ∷ [])) (nextList P e i a) (nextReasons (o .why) i) in
+      let f : ℕ → Ending = λ a. search S i k (p ++ (a ∷ [])) (nextList P e i a) (nextReasons (o .why) i) in
       let s = someValue (uses S 6) i (valuesOfTurn e p) f 16 0 (startSet (o .why) (o .list) e i) in
       let u = eachValue (λ q a. uses S 7 && skippable e i q a) f 16 0 (valuesOfTurn e p) p in
       handUp (uses S 6) i (cond (o .loss) (failed (o .set)) (cond (universal i) u s))
 
   -- The search from the plays p, none of them checked yet.
-  unfoldable pub searchFrom : ℕ → List ℕ → Verdict
+  unfoldable pub searchFrom : ℕ → List ℕ → Ending
   searchFrom S p = search S 0 (n - length p) p (firstList P p) (firstReasons n (length p))
 
   -- The marks of the next variable after the plays p: "A marking searches for each option by itself, its first turn starting from the position

@@ -9,7 +9,7 @@ use Rattle.game.specs.Problem.{Problem}
 use Rattle.game.specs.Lists.{domains}
 use Rattle.game.specs.Turn.{firstList, nextList, reached}
 use Rattle.game.specs.Reasons.{firstReasons, nextReasons, explained}
-use Rattle.game.specs.Search.{Verdict, search}
+use Rattle.game.specs.Search.{Ending, search}
 
 module _ (P : Problem) where
   open Problem P using (n)
@@ -23,5 +23,5 @@ module _ (P : Problem) where
         → TurnOf S p₀ (length p) (p ++ (a ∷ [])) (nextList P (reached P S c p l .list) (length p) a) (nextReasons (explained P S c p l R .why) (length p))
 
   -- The answer of the turn below a turn whose rules reached the list e and the reasons R, where value a is played.
-  abbrev pub turnBelow : ℕ → ℕ → List ℕ → List ℕ → List ℕ → ℕ → Verdict
+  abbrev pub turnBelow : ℕ → ℕ → List ℕ → List ℕ → List ℕ → ℕ → Ending
   turnBelow S k p e R a = search P S (length p) k (p ++ (a ∷ [])) (nextList P e (length p) a) (nextReasons R (length p))

@@ -12,7 +12,7 @@ use Rattle.file_records.specs.Records.{verdictOf}
 use Rattle.game.specs.Problem.{Problem}
 use Rattle.game.specs.Calls.{Call, play, takeBack, standing}
 use Rattle.game.specs.Winning.{winningValues}
-use Rattle.tables.specs.FileProblem.{problemOf}
+use Rattle.file_decoder.specs.FileProblem.{problemOf}
 use Rattle.search_run.specs.Run.{roomNeeded}
 use Rattle.session.specs.History.{listOpened}
 
@@ -35,4 +35,4 @@ abbrev pub Demand3 : (f : List ℕ) (fine : verdictOf f ≡ Fine) (calls : List 
 Demand3 f fine calls set words marks opened =
     let P = problemOf f fine in
     let l = standing P calls in
-    (set ≤ greatestSet → roomNeeded (P .n) ≤ words → marks ≡ listMarked P l) × (opened ≡ listOpened P l)
+    (set ≤ greatestSet → roomNeeded P ≤ words → marks ≡ listMarked P l) × (opened ≡ listOpened P l)

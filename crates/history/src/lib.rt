@@ -1,6 +1,6 @@
-// Call histories (document 01, demand 3): calls one after another from the fresh position, then the marks and the open
-// values of the position reached. `replay` is open to callers; it runs the very entries `play`, `take_back`, `mark` and
-// `open_values`.
+// Call histories (document 00, demand 3): calls one after another from the fresh position, then the marks and the open values of the
+// position reached. It rests on `session` and `marking`. `replay` is open to callers; it runs the very entries `play`, `take_back`,
+// `mark` and `open_values`.
 ghost use mathlib.Core.Path.{_≡_};
 ghost use lib.ListN.{length};
 ghost use Rattle.refusal.specs.declared.Verdict.the-variants.{Fine};
@@ -53,11 +53,16 @@ fn reached(f: &[u8], start: Position, calls: &[u8]) -> Position
 // Runs the calls, each a byte, and replies the marks and the open values reached, under the rule set of this number. The
 // room is left as by marking.
 pub fn replay(f: &[u8], calls: &[u8], set: usize, room: &mut [u16]) -> Replayed
-    ensures { λ r. ⌜ told (r .marks) ≡ markTold (now (f .entry)) (reachedBy (now (f .entry)) (callsOf (now (calls .entry)))) set (length (now (room .entry))) ⌝ }
+    ensures { λ r. ⌜ told (r .marks) ≡ markTold (now (f .entry)) (reachedBy (now (f .entry)) (callsOf (now (calls .entry)))) set
+        (length (now (room .entry))) ⌝ }
     ensures { λ r. ⌜ toldOpened (r .opened) ≡ openTold (now (f .entry)) (reachedBy (now (f .entry)) (callsOf (now (calls .entry)))) ⌝ }
-    ensures { λ r. ⌜ (r .opened .masks ≡ masksShown (now (f .entry)) (reachedBy (now (f .entry)) (callsOf (now (calls .entry))))) × (r .opened .counts ≡ countsShown (now (f .entry)) (reachedBy (now (f .entry)) (callsOf (now (calls .entry))))) ⌝ }
-    ensures { λ r. ⌜ now (room .exit) ≡ markLeft (now (f .entry)) (reachedBy (now (f .entry)) (callsOf (now (calls .entry)))) set (now (room .entry)) ⌝ }
-    ensures { λ r. ⌜ ((fine : verdictOf (now (f .entry)) ≡ Fine) → Demand3 (now (f .entry)) fine (callsOf (now (calls .entry))) set (length (now (room .entry))) (told (r .marks)) (toldOpened (r .opened))) ⌝ }
+    ensures { λ r. ⌜ (r .opened .masks ≡ masksShown (now (f .entry)) (reachedBy (now (f .entry)) (callsOf (now (calls .entry)))))
+        × (r .opened .counts ≡ countsShown (now (f .entry)) (reachedBy (now (f .entry)) (callsOf (now (calls .entry))))) ⌝ }
+    ensures { λ r. ⌜ now (room .exit) ≡ markLeft (now (f .entry)) (reachedBy (now (f .entry)) (callsOf (now (calls .entry)))) set
+        (now (room .entry)) ⌝ }
+    ensures { λ r. ⌜ ((fine : verdictOf (now (f .entry)) ≡ Fine)
+        → Demand3 (now (f .entry)) fine (callsOf (now (calls .entry))) set (length (now (room .entry)))
+        (told (r .marks)) (toldOpened (r .opened))) ⌝ }
 {
     let start = fresh();
     let p = reached(f, start, calls);

@@ -1,5 +1,5 @@
 -- What the entries reply to an accepted file: a rule set above 127 is 8 and more plays than variables are 23, however large the number; every
--- other position that fits is judged and, unless played out, marked. So the room held suffices for every file, and 12 never comes.
+-- other position that fits is judgeReplied and, unless played out, markReplied. So the room held suffices for every file, and 12 never comes.
 use mathlib.Core.Path.{_≡_, refl, ap, _∙_}
 use mathlib.Core.Bool.{Bool, cond}
 use mathlib.Core.List.{List, [], _∷_}
@@ -13,27 +13,29 @@ use Rattle.refusal.specs.declared.Verdict.{Verdict}
 use Rattle.refusal.specs.declared.Verdict.the-variants.{Fine}
 use Rattle.refusal.specs.declared.Verdict.the-variants.{Refused as Not}
 use Rattle.refusal.specs.Told.{refusedAt}
+use Rattle.refusal.specs.Replied.{repliedFor}
 use Rattle.refusal.specs.Chain.{need}
 use Rattle.refusal.proofs.Chain.{go, stop, then-ok, need-ok}
 use Rattle.rule_set.specs.RuleSet.{isRuleSet, greatestSet}
 use Rattle.file_layout.specs.Layout.{nOf}
 use Rattle.file_records.specs.Records.{verdictOf}
-use Rattle.problem_file.proofs.Accepted.{accepted}
+use Rattle.file_reader.proofs.Accepted.{accepted}
 use Rattle.game.specs.Problem.{Problem}
 use Rattle.game.specs.Winning.{verdict, winningValues}
-use Rattle.tables.specs.FileProblem.{problemOf}
-use Rattle.tables.proofs.FileLaws.{problem-size}
-use Rattle.rules.proofs.ReadLaws.{read-fine}
+use Rattle.file_decoder.specs.FileProblem.{problemOf}
+use Rattle.file_decoder.proofs.FileLaws.{problem-size}
+use Rattle.file_decoder.proofs.ReadLaws.{read-fine}
 use Rattle.position.specs.declared.Position.{Position}
 use Rattle.position.specs.Position.{playsOf, fitsIn}
-use Rattle.search_run.specs.Run.{roomNeeded}
-use Rattle.judging.specs.Tests.{positionTest, roomTest, judgeTest}
-use Rattle.judging.specs.Judging.{repliedFor, judgeReply, judgeTold}
+use Rattle.search_run.specs.Run.{roomNeeded, heldRoom}
+use Rattle.judging.specs.Tests.{positionTest, judgeTest}
+use Rattle.judging.proofs.TestLaws.{room-held}
+use Rattle.judging.specs.Judging.{judgeReply, judgeTold}
 use Rattle.marking.specs.Marking.{markTest, markReply, markTold}
 use Rattle.host.specs.declared.replies.Judgement.{Judgement}
 use Rattle.host.specs.declared.replies.Marks.{Marks}
 use Rattle.host.specs.Unpack.{unpack}
-use Rattle.host.specs.Replies.{heldRoom, kindOf, numberOf, placeOf, valueOf, judgementOf, marksOf}
+use Rattle.host.specs.Replies.{kindOf, numberOf, placeOf, valueOf, judgementOf, marksOf}
 
 -- The tests on a position and a rule set.
 module _ (n : ℕ) (masks : List ℕ) (p : Position) (set : ℕ) where
@@ -49,11 +51,6 @@ module _ (n : ℕ) (masks : List ℕ) (p : Position) (set : ℕ) where
   unfolding positionTest isRuleSet
   position-taken h t = then-ok _ _ (need-ok _ _ _ (le-leb set greatestSet h)) (need-ok _ _ _ (holds t))
 
--- The room that the entries hold is enough.
-room-held : (n : ℕ) → n ≤ 32 → roomTest n heldRoom ≡ Fine
-unfolding roomTest
-room-held n h = need-ok _ _ _ (le-leb (roomNeeded n) heldRoom (omega arith))
-
 module _ (f : List ℕ) (fine : verdictOf f ≡ Fine) (plays a b c d set : ℕ) where
   abbrev pub P : Problem
   P = problemOf f fine
@@ -62,46 +59,46 @@ module _ (f : List ℕ) (fine : verdictOf f ≡ Fine) (plays a b c d set : ℕ) 
   p = unpack plays a b c d
 
   -- The replies of the entries.
-  abbrev pub judged : Judgement
-  judged = judgementOf (judgeTold f p set heldRoom)
+  abbrev pub judgeReplied : Judgement
+  judgeReplied = judgementOf (judgeTold f p set heldRoom)
 
-  abbrev pub marked : Marks
-  marked = marksOf (markTold f p set heldRoom)
+  abbrev pub markReplied : Marks
+  markReplied = marksOf (markTold f p set heldRoom)
 
   size : P .n ≤ 32
   size = omega (arith, problem-size f fine, accepted f fine .head .counts .most)
 
-  judge-by : (v : Verdict) → judgeTest (P .n) (P .domain) p set heldRoom ≡ v → judgeTold f p set heldRoom ≡ repliedFor v (cond (verdict P (playsOf p)) 1 0 ∷ [])
+  judge-by : (v : Verdict) → judgeTest (P .n) (P .domain) p set (roomNeeded P) heldRoom ≡ v → judgeTold f p set heldRoom ≡ repliedFor v (cond (verdict P (playsOf p)) 1 0 ∷ [])
   unfolding judgeTold judgeReply
-  judge-by v e = read-fine f refusedAt (λ P. judgeReply P p set heldRoom) fine ∙ rw e refl
+  judge-by v e = read-fine f refusedAt _ fine ∙ rw e refl
 
-  mark-by : (v : Verdict) → markTest (P .n) (P .domain) p set heldRoom ≡ v → markTold f p set heldRoom ≡ repliedFor v (winningValues P (playsOf p) ∷ getD (P .domain) (p .plays) 0 ∷ [])
+  mark-by : (v : Verdict) → markTest (P .n) (P .domain) p set (roomNeeded P) heldRoom ≡ v → markTold f p set heldRoom ≡ repliedFor v (winningValues P (playsOf p) ∷ getD (P .domain) (p .plays) 0 ∷ [])
   unfolding markTold markReply
-  mark-by v e = read-fine f refusedAt (λ P. markReply P p set heldRoom) fine ∙ rw e refl
+  mark-by v e = read-fine f refusedAt _ fine ∙ rw e refl
 
   -- A rule set above 127.
-  pub wide-rules : greatestSet < set → (judged ≡ record { kind = 1; number = 8; place = 0; won = 0 }) × (marked ≡ record { kind = 1; number = 8; place = 0; winning = 0; domain = 0 })
+  pub wide-rules : greatestSet < set → (judgeReplied ≡ record { kind = 1; number = 8; place = 0; won = 0 }) × (markReplied ≡ record { kind = 1; number = 8; place = 0; winning = 0; domain = 0 })
   unfolding judgeTest markTest repliedFor judgementOf marksOf kindOf numberOf placeOf valueOf
   wide-rules h =
       let r = rules-refused (P .n) (P .domain) p set h in
       (ap judgementOf (judge-by (Not 8 0) (stop _ _ 8 0 r)), ap marksOf (mark-by (Not 8 0) (stop _ _ 8 0 r)))
 
   -- More plays than variables.
-  pub many-plays : set ≤ greatestSet → nOf f < plays → (judged ≡ record { kind = 1; number = 23; place = 0; won = 0 }) × (marked ≡ record { kind = 1; number = 23; place = 0; winning = 0; domain = 0 })
+  pub many-plays : set ≤ greatestSet → nOf f < plays → (judgeReplied ≡ record { kind = 1; number = 23; place = 0; won = 0 }) × (markReplied ≡ record { kind = 1; number = 23; place = 0; winning = 0; domain = 0 })
   unfolding judgeTest markTest unpack repliedFor judgementOf marksOf kindOf numberOf placeOf valueOf
   many-plays h k =
       let r = plays-refused (P .n) (P .domain) p set h (omega (arith, problem-size f fine)) in
       (ap judgementOf (judge-by (Not 23 0) (stop _ _ 23 0 r)), ap marksOf (mark-by (Not 23 0) (stop _ _ 23 0 r)))
 
-  -- Every position that fits is judged.
-  pub judges : set ≤ greatestSet → T (fitsIn p (P .n) (P .domain)) → judged ≡ record { kind = 0; number = 0; place = 0; won = cond (verdict P (playsOf p)) 1 0 }
+  -- Every position that fits is judgeReplied.
+  pub judges : set ≤ greatestSet → T (fitsIn p (P .n) (P .domain)) → judgeReplied ≡ record { kind = 0; number = 0; place = 0; won = cond (verdict P (playsOf p)) 1 0 }
   unfolding judgeTest repliedFor judgementOf kindOf numberOf placeOf valueOf
-  judges h t = ap judgementOf (judge-by Fine (then-ok _ _ (position-taken (P .n) (P .domain) p set h t) (room-held (P .n) size)))
+  judges h t = ap judgementOf (judge-by Fine (then-ok _ _ (position-taken (P .n) (P .domain) p set h t) (room-held P size)))
 
-  -- And it is marked, where a variable is left to play.
+  -- And it is markReplied, where a variable is left to play.
   pub marks : set ≤ greatestSet → T (fitsIn p (P .n) (P .domain)) → plays < nOf f
-      → marked ≡ record { kind = 0; number = 0; place = 0; winning = winningValues P (playsOf p); domain = getD (P .domain) plays 0 }
+      → markReplied ≡ record { kind = 0; number = 0; place = 0; winning = winningValues P (playsOf p); domain = getD (P .domain) plays 0 }
   unfolding markTest unpack repliedFor marksOf kindOf numberOf placeOf valueOf
   marks h t k =
       ap marksOf
-      (mark-by Fine (then-ok _ _ (position-taken (P .n) (P .domain) p set h t) (then-ok _ _ (need-ok _ _ _ (lt-ltb plays (P .n) (omega (arith, problem-size f fine)))) (room-held (P .n) size))))
+      (mark-by Fine (then-ok _ _ (position-taken (P .n) (P .domain) p set h t) (then-ok _ _ (need-ok _ _ _ (lt-ltb plays (P .n) (omega (arith, problem-size f fine)))) (room-held P size))))

@@ -4,15 +4,10 @@ use Prim.Native.Nat.{ℕ}
 use mathlib.Core.List.{List}
 use lib.ListN.{length, drop, getD}
 use Rattle.refusal.specs.Told.{Told, replied, refused, refusedAt}
-use Rattle.problem_file.specs.Used.{setUsed}
-use Rattle.search_run.specs.Run.{roomNeeded}
+use Rattle.file_reader.specs.Used.{setUsed}
 use Rattle.host.specs.declared.replies.ReadFile.{ReadFile}
 use Rattle.host.specs.declared.replies.Judgement.{Judgement}
 use Rattle.host.specs.declared.replies.Marks.{Marks}
-
--- "these entries bring their own room": as many words as a file of 32 variables needs.
-abbrev pub heldRoom : ℕ
-heldRoom = roomNeeded 32
 
 unfoldable pub kindOf : Told → ℕ
 kindOf (replied l) = 0
@@ -42,14 +37,14 @@ givenOf (refused e) = 0
 givenOf (refusedAt e p) = 0
 
 -- The rule set to judge by.
-unfoldable pub rulesOf : Told → ℕ
-rulesOf (replied l) = setUsed (drop 3 l)
-rulesOf (refused e) = 0
-rulesOf (refusedAt e p) = 0
+unfoldable pub rulesIn : Told → ℕ
+rulesIn (replied l) = setUsed (drop 3 l)
+rulesIn (refused e) = 0
+rulesIn (refusedAt e p) = 0
 
 unfoldable pub readFileOf : Told → List ℕ → ReadFile
 readFileOf t domains =
-    record { kind = kindOf t; number = numberOf t; place = placeOf t; n = valueOf t 0; m = valueOf t 1; universal = valueOf t 2; given = givenOf t; rules = rulesOf t; domains = domains }
+    record { kind = kindOf t; number = numberOf t; place = placeOf t; n = valueOf t 0; m = valueOf t 1; universal = valueOf t 2; given = givenOf t; rules = rulesIn t; domains = domains }
 
 unfoldable pub judgementOf : Told → Judgement
 judgementOf t = record { kind = kindOf t; number = numberOf t; place = placeOf t; won = valueOf t 0 }

@@ -11,8 +11,8 @@ unfoldable pub byteOf : ℕ → ℕ → ℕ
 byteOf w k = (w / 2 ^ (8 * k)) % 256
 
 -- Place k of the 32.
-unfoldable pub placeOf : ℕ → ℕ → ℕ → ℕ → ℕ → ℕ
-placeOf a b c d k = byteOf (getD (a ∷ b ∷ c ∷ d ∷ []) (k / 8) 0) (k % 8)
+unfoldable pub placeIn : ℕ → ℕ → ℕ → ℕ → ℕ → ℕ
+placeIn a b c d k = byteOf (getD (a ∷ b ∷ c ∷ d ∷ []) (k / 8) 0) (k % 8)
 
 unfoldable pub unpack : ℕ → ℕ → ℕ → ℕ → ℕ → Position
-unpack plays a b c d = record { plays = plays; values = listOf 32 (placeOf a b c d) }
+unpack plays a b c d = record { plays = plays; values = listOf 32 (placeIn a b c d) }

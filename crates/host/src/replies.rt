@@ -2,15 +2,15 @@
 // finished reply, 1 for a refusal by number, 2 for a file's refusal with number and place; a field that says nothing is 0.
 ghost use mathlib.Core.Path.{_≡_};
 ghost use lib.ListN.{length};
-ghost use Rattle.problem_file.specs.Reading.{ruleNumbers, told as toldHeader};
+ghost use Rattle.file_reader.specs.Reading.{ruleNumbers, told as toldHeader};
 ghost use Rattle.judging.specs.Judging.{told as toldJudged};
 ghost use Rattle.marking.specs.Marking.{told as toldMarked};
 ghost use Rattle.host.specs.Replies.{readFileOf, judgementOf, marksOf};
 use file_layout::Rules;
+use file_reader::Header;
+use file_reader::rules_used;
 use judging::Judged;
 use marking::Marked;
-use problem_file::Header;
-use problem_file::rules_used;
 
 #[repr(C)]
 pub struct ReadFile {
@@ -67,17 +67,20 @@ pub fn reading_shown(h: Header, domains: [u16; 32]) -> ReadFile
             rules: 0,
             domains: domains,
         },
-        Header::Accepted(n, m, rules, universal) => ReadFile {
-            kind: 0,
-            number: 0,
-            place: 0,
-            n: n as u64,
-            m: m as u64,
-            universal: universal as u64,
-            given: named(rules),
-            rules: rules_used(rules) as u64,
-            domains: domains,
-        },
+        Header::Accepted(head) => {
+            let rules = head.rules;
+            ReadFile {
+                kind: 0,
+                number: 0,
+                place: 0,
+                n: head.n as u64,
+                m: head.m as u64,
+                universal: head.universal as u64,
+                given: named(rules),
+                rules: rules_used(rules) as u64,
+                domains: domains,
+            }
+        }
     }
 }
 

@@ -3,16 +3,14 @@ use Prim.Native.Nat.{ℕ}
 use mathlib.Core.Bool.{cond}
 use mathlib.Core.List.{List, [], _∷_}
 use lib.ListN.{length}
-use Rattle.refusal.specs.declared.Verdict.{Verdict}
-use Rattle.refusal.specs.declared.Verdict.the-variants.{Fine}
-use Rattle.refusal.specs.declared.Verdict.the-variants.{Refused as Not}
 use Rattle.refusal.specs.Told.{Told, replied, refused, refusedAt}
+use Rattle.refusal.specs.Replied.{repliedFor, listFor}
 use Rattle.game.specs.Problem.{Problem}
 use Rattle.game.specs.Winning.{verdict}
-use Rattle.rules.specs.Alone.{readFirst, listFor}
+use Rattle.file_decoder.specs.Read.{readFirst}
 use Rattle.position.specs.declared.Position.{Position}
 use Rattle.position.specs.Position.{playsOf}
-use Rattle.turn_words.specs.TurnRoom.{zeroed}
+use Rattle.search_words.specs.TurnRoom.{zeroed}
 use Rattle.search_run.specs.Run.{roomNeeded}
 use Rattle.judging.specs.declared.Judged.{Judged}
 use Rattle.judging.specs.declared.Judged.the-variants.{Won, Lost, Refused, RefusedAt}
@@ -25,21 +23,16 @@ told Lost = replied (0 ∷ [])
 told (Refused e) = refused e
 told (RefusedAt e p) = refusedAt e p
 
--- A finished reply by the tests.
-unfoldable pub repliedFor : Verdict → List ℕ → Told
-repliedFor Fine values = replied values
-repliedFor (Not e p) values = refused e
-
 -- Over a problem P: the verdict of the game, under every set. "After a finished call these words are zero and any beyond are unchanged"; "A refused call
 -- leaves position, list, room and buffer with their old contents."
 module _ (P : Problem) (p : Position) (set : ℕ) where
   open Problem P using (n, domain)
 
   unfoldable pub judgeReply : ℕ → Told
-  judgeReply words = repliedFor (judgeTest n domain p set words) (cond (verdict P (playsOf p)) 1 0 ∷ [])
+  judgeReply words = repliedFor (judgeTest n domain p set (roomNeeded P) words) (cond (verdict P (playsOf p)) 1 0 ∷ [])
 
   unfoldable pub judgeRoom : List ℕ → List ℕ
-  judgeRoom room = listFor (judgeTest n domain p set (length room)) (zeroed 0 (roomNeeded n) room) room
+  judgeRoom room = listFor (judgeTest n domain p set (roomNeeded P) (length room)) (zeroed 0 (roomNeeded P) room) room
 
 -- Over a file f.
 module _ (f : List ℕ) (p : Position) (set : ℕ) where

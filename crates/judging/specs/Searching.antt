@@ -2,6 +2,7 @@
 use Prim.Native.Nat.{ℕ}
 use mathlib.Core.Bool.{Bool, false, cond}
 use mathlib.Core.List.{List, [], _∷_}
+use Rattle.game.specs.Lists.{spread}
 use Rattle.refusal.specs.declared.Verdict.{Verdict}
 use Rattle.refusal.specs.declared.Verdict.the-variants.{Fine}
 use Rattle.refusal.specs.declared.Verdict.the-variants.{Refused as Not}
@@ -9,11 +10,10 @@ use Rattle.refusal.specs.Told.{Told, replied, refused, refusedAt}
 use Rattle.game.specs.Problem.{Problem}
 use Rattle.game.specs.Turn.{firstList, reached}
 use Rattle.game.specs.Search.{is-solved, searchFrom}
-use Rattle.rules.specs.Alone.{readFirst}
+use Rattle.file_decoder.specs.Read.{readFirst}
 use Rattle.position.specs.declared.Position.{Position}
 use Rattle.position.specs.Position.{playsOf}
-use Rattle.search_run.specs.FirstTurn.{filled}
-use Rattle.search_run.specs.Run.{leafShown, conflictShown}
+use Rattle.search_run.specs.Run.{roomNeeded, leafShown, conflictShown}
 use Rattle.judging.specs.declared.Searched.{Searched}
 use Rattle.judging.specs.Tests.{judgeTest}
 use Rattle.judging.specs.Judging.{told}
@@ -32,7 +32,7 @@ found r = record { told = told (r .judged); loss = r .loss; list = r .list; conf
 
 -- A refused call finds nothing.
 unfoldable pub nothing : Told → Findings
-nothing t = record { told = t; loss = false; list = filled []; conflict = 0; leaf = filled [] }
+nothing t = record { told = t; loss = false; list = spread []; conflict = 0; leaf = spread [] }
 
 unfoldable pub foundFor : Verdict → Findings → Findings
 foundFor Fine o = o
@@ -46,10 +46,10 @@ module _ (P : Problem) (p : Position) (set : ℕ) where
   searchFindings =
       let first = reached P set 0 (playsOf p) (firstList P (playsOf p)) in
       let v = searchFrom P set (playsOf p) in
-      record { told = replied (cond (is-solved v) 1 0 ∷ []); loss = first .loss; list = filled (first .list); conflict = conflictShown v; leaf = leafShown v }
+      record { told = replied (cond (is-solved v) 1 0 ∷ []); loss = first .loss; list = spread (first .list); conflict = conflictShown v; leaf = leafShown v }
 
   unfoldable pub searchReply : ℕ → Findings
-  searchReply words = foundFor (judgeTest n domain p set words) searchFindings
+  searchReply words = foundFor (judgeTest n domain p set (roomNeeded P) words) searchFindings
 
 -- Over a file f.
 unfoldable pub searchFound : List ℕ → Position → ℕ → ℕ → Findings

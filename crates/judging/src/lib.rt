@@ -1,26 +1,29 @@
-// Searching and judging a position: all that a search finds, and whether the game is won. `search` and `judge` are open to
-// callers.
+// Searching and judging a position: all that a search finds, and whether the game is won. It rests on `file_decoder`, `position` and
+// `search_run`. `search` and `judge` are open to callers; `room_test` is for `marking`.
 ghost use mathlib.Core.Path.{_≡_};
 ghost use mathlib.Core.Bool.{cond};
 ghost use mathlib.Core.List.{[], _∷_};
-ghost use Prim.Native.Nat.{_≤_};
 ghost use lib.ListN.{length};
 ghost use Rattle.refusal.specs.Told.{replied};
-ghost use Rattle.arrays.specs.Arrays.{InRange};
-ghost use Rattle.search_run.specs.Run.{Posed};
+ghost use Rattle.search_run.specs.Run.{Searchable};
 ghost use Rattle.judging.specs.Judging.{told, judgeTold, judgeLeft};
 ghost use Rattle.judging.specs.Searching.{found, nothing, searchFound};
 ghost use Rattle.judging.specs.Inner.{Places, Searches};
 
 mod tests;
 
+use file_decoder::decode;
 use position::Position;
-use problem_file::Header;
 use refusal::Verdict;
 use rule_set::Chosen;
 use rule_set::RuleSet;
+use search_run::room_needed;
 use search_run::run;
-use tables::decode;
+use solver_arrays::Index;
+use solver_arrays::Near;
+use solver_arrays::ROWS;
+use solver_arrays::Rows;
+use solver_arrays::Variables;
 use tests::place_test;
 pub use tests::room_test;
 
@@ -62,26 +65,27 @@ fn verdict_of(won: bool) -> Judged
     if won { Judged::Won } else { Judged::Lost }
 }
 
-// Searches under a rule set over the arrays of a problem.
+// Searches under a rule set over the arrays of a problem, of which the first n variables are to play.
 fn search_with(
-    near: &[u32; 32],
-    index: &[u16; 1024],
-    rows: &[u16; 15888],
+    near: &Near,
+    index: &Index,
+    rows: &Rows,
+    v: Variables,
     n: usize,
-    universal: u32,
-    domains: &[u16; 32],
     p: Position,
     set: RuleSet,
     room: &mut [u16],
 ) -> Searched
-    requires { ⌜ (n ≤ 32) × InRange (now index) × Posed n universal (now near) (now index) (now rows) (now domains) ⌝ }
-    ensures { λ r. ⌜ Places n universal (now (near .entry)) (now (index .entry)) (now (rows .entry)) (now (domains .entry)) p (set .bits) (now (room .entry)) (now (room .exit)) r ⌝ }
+    requires { ⌜ Searchable n v (now near) (now index) (now rows) ⌝ }
+    ensures { λ r. ⌜ Places v (now (near .entry)) (now (index .entry)) (now (rows .entry)) n p (set .bits)
+        (now (room .entry)) (now (room .exit)) r ⌝ }
 {
-    let v = place_test(n, domains, p, room.len());
-    match v {
+    let d = v.domains;
+    let t = place_test(n, &d, p, room_needed(v.n), room.len());
+    match t {
         Verdict::Refused(number, _) => not_searched(Judged::Refused(number)),
         Verdict::Fine => {
-            let r = run(near, index, rows, n, universal, domains, set, p, room);
+            let r = run(near, index, rows, v, set, p, room);
             let judged = verdict_of(r.won);
             let list = r.list;
             let leaf = r.leaf;
@@ -98,23 +102,23 @@ fn search_with(
 
 // Searches under the rule set of this number.
 fn search_in(
-    near: &[u32; 32],
-    index: &[u16; 1024],
-    rows: &[u16; 15888],
+    near: &Near,
+    index: &Index,
+    rows: &Rows,
+    v: Variables,
     n: usize,
-    universal: u32,
-    domains: &[u16; 32],
     p: Position,
     set: usize,
     room: &mut [u16],
 ) -> Searched
-    requires { ⌜ (n ≤ 32) × InRange (now index) × Posed n universal (now near) (now index) (now rows) (now domains) ⌝ }
-    ensures { λ r. ⌜ Searches n universal (now (near .entry)) (now (index .entry)) (now (rows .entry)) (now (domains .entry)) p set (now (room .entry)) (now (room .exit)) r ⌝ }
+    requires { ⌜ Searchable n v (now near) (now index) (now rows) ⌝ }
+    ensures { λ r. ⌜ Searches v (now (near .entry)) (now (index .entry)) (now (rows .entry)) n p set
+        (now (room .entry)) (now (room .exit)) r ⌝ }
 {
     let c = RuleSet::new(set);
     match c {
         Chosen::Refused(number) => not_searched(Judged::Refused(number)),
-        Chosen::Set(s) => { search_with(near, index, rows, n, universal, domains, p, s, room) }
+        Chosen::Set(s) => search_with(near, index, rows, v, n, p, s, room),
     }
 }
 
@@ -126,16 +130,13 @@ pub fn search(f: &[u8], p: Position, set: usize, room: &mut [u16]) -> Searched
 {
     let mut near = [0u32; 32];
     let mut index = [0u16; 1024];
-    let mut rows = [0u16; 15888];
-    let r = decode(f, &mut near, &mut index, &mut rows);
-    let h = r.header;
-    let d = r.domains;
-    match h {
-        Header::Refused(number, place) => not_searched(Judged::RefusedAt(number, place)),
-        Header::Accepted(n, _, _, u) => {
-            search_in(&near, &index, &rows, n as usize, u, &d, p, set, room)
-        }
+    let mut rows = [0u16; ROWS];
+    let d = decode(f, &mut near, &mut index, &mut rows);
+    if d.refused {
+        return not_searched(Judged::RefusedAt(d.number, d.place));
     }
+    let v = d.variables;
+    search_in(&near, &index, &rows, v, d.n, p, set, room)
 }
 
 // Whether the position is won: the verdict of a search under the rule set of this number, which leaves the room so.

@@ -1,23 +1,27 @@
-// Marks: which values of a position's next variable win when played. `mark` is open to callers.
+// Marks: which values of a position's next variable win when played, each searched by itself. It rests on `file_decoder`, `search_run`
+// and the tests of `judging`. `mark` is open to callers.
 ghost use mathlib.Core.Path.{_≡_};
-ghost use Prim.Native.Nat.{_≤_};
 ghost use lib.ListN.{length};
-ghost use Rattle.arrays.specs.Arrays.{InRange};
-ghost use Rattle.search_run.specs.Run.{Posed};
+ghost use Rattle.search_run.specs.Run.{Searchable};
 ghost use Rattle.marking.specs.Marking.{told, markPlaceTest, markTold, markLeft, MarksWith, MarksIn};
 
 mod values;
 
+use file_decoder::decode;
 use judging::room_test;
 use position::Position;
 use position::fits;
-use problem_file::Header;
 use refusal::Verdict;
 use refusal::first;
 use refusal::needed;
 use rule_set::Chosen;
 use rule_set::RuleSet;
-use tables::decode;
+use search_run::room_needed;
+use solver_arrays::Index;
+use solver_arrays::Near;
+use solver_arrays::ROWS;
+use solver_arrays::Rows;
+use solver_arrays::Variables;
 use values::winning_values;
 
 // What marking replies: the winning values and the domain of the next variable; refused by number; the file's refusal with
@@ -29,36 +33,36 @@ pub enum Marked {
 }
 
 // The tests of marking behind the rule set: 23, 22, 12.
-fn mark_test(n: usize, domains: &[u16; 32], p: Position, words: usize) -> Verdict
-    requires { ⌜ n ≤ 32 ⌝ }
-    ensures { λ r. ⌜ r ≡ markPlaceTest n (now (domains .entry)) p words ⌝ }
+fn mark_test(n: usize, domains: &[u16; 32], p: Position, room: usize, words: usize) -> Verdict
+    ensures { λ r. ⌜ r ≡ markPlaceTest n (now (domains .entry)) p room words ⌝ }
 {
     let s = needed(fits(p, n, domains), 23, 0);
     let t = needed(p.plays < n, 22, 0);
-    let u = room_test(n, words);
+    let u = room_test(room, words);
     first(s, first(t, u))
 }
 
-// Marks under a rule set over the arrays of a problem.
+// Marks under a rule set over the arrays of a problem, of which the first n variables are to play.
 fn mark_with(
-    near: &[u32; 32],
-    index: &[u16; 1024],
-    rows: &[u16; 15888],
+    near: &Near,
+    index: &Index,
+    rows: &Rows,
+    v: Variables,
     n: usize,
-    universal: u32,
-    domains: &[u16; 32],
     p: Position,
     set: RuleSet,
     room: &mut [u16],
 ) -> Marked
-    requires { ⌜ (n ≤ 32) × InRange (now index) × Posed n universal (now near) (now index) (now rows) (now domains) ⌝ }
-    ensures { λ r. ⌜ MarksWith n universal (now (near .entry)) (now (index .entry)) (now (rows .entry)) (now (domains .entry)) p (set .bits) (now (room .entry)) (now (room .exit)) r ⌝ }
+    requires { ⌜ Searchable n v (now near) (now index) (now rows) ⌝ }
+    ensures { λ r. ⌜ MarksWith v (now (near .entry)) (now (index .entry)) (now (rows .entry)) n p (set .bits)
+        (now (room .entry)) (now (room .exit)) r ⌝ }
 {
-    let v = mark_test(n, domains, p, room.len());
-    match v {
+    let d = v.domains;
+    let t = mark_test(n, &d, p, room_needed(v.n), room.len());
+    match t {
         Verdict::Refused(number, _) => Marked::Refused(number),
         Verdict::Fine => {
-            let m = winning_values(near, index, rows, n, universal, domains, set, p, room);
+            let m = winning_values(near, index, rows, v, set, p, room);
             Marked::Values(m.winning, m.domain)
         }
     }
@@ -66,23 +70,23 @@ fn mark_with(
 
 // Marks under the rule set of this number.
 fn mark_in(
-    near: &[u32; 32],
-    index: &[u16; 1024],
-    rows: &[u16; 15888],
+    near: &Near,
+    index: &Index,
+    rows: &Rows,
+    v: Variables,
     n: usize,
-    universal: u32,
-    domains: &[u16; 32],
     p: Position,
     set: usize,
     room: &mut [u16],
 ) -> Marked
-    requires { ⌜ (n ≤ 32) × InRange (now index) × Posed n universal (now near) (now index) (now rows) (now domains) ⌝ }
-    ensures { λ r. ⌜ MarksIn n universal (now (near .entry)) (now (index .entry)) (now (rows .entry)) (now (domains .entry)) p set (now (room .entry)) (now (room .exit)) r ⌝ }
+    requires { ⌜ Searchable n v (now near) (now index) (now rows) ⌝ }
+    ensures { λ r. ⌜ MarksIn v (now (near .entry)) (now (index .entry)) (now (rows .entry)) n p set
+        (now (room .entry)) (now (room .exit)) r ⌝ }
 {
     let c = RuleSet::new(set);
     match c {
         Chosen::Refused(number) => Marked::Refused(number),
-        Chosen::Set(s) => { mark_with(near, index, rows, n, universal, domains, p, s, room) }
+        Chosen::Set(s) => mark_with(near, index, rows, v, n, p, s, room),
     }
 }
 
@@ -93,14 +97,11 @@ pub fn mark(f: &[u8], p: Position, set: usize, room: &mut [u16]) -> Marked
 {
     let mut near = [0u32; 32];
     let mut index = [0u16; 1024];
-    let mut rows = [0u16; 15888];
-    let r = decode(f, &mut near, &mut index, &mut rows);
-    let h = r.header;
-    let d = r.domains;
-    match h {
-        Header::Refused(number, place) => Marked::RefusedAt(number, place),
-        Header::Accepted(n, _, _, u) => {
-            mark_in(&near, &index, &rows, n as usize, u, &d, p, set, room)
-        }
+    let mut rows = [0u16; ROWS];
+    let d = decode(f, &mut near, &mut index, &mut rows);
+    if d.refused {
+        return Marked::RefusedAt(d.number, d.place);
     }
+    let v = d.variables;
+    mark_in(&near, &index, &rows, v, d.n, p, set, room)
 }

@@ -1,14 +1,12 @@
 // The winning values of a position's next variable, each searched by itself.
 ghost use mathlib.Core.Path.{_≡_};
-ghost use Prim.Native.Nat.{_≤_, _<_};
+ghost use Prim.Native.Nat.{_<_};
 ghost use lib.Dec.{T};
-ghost use lib.ListN.{length, getD};
+ghost use lib.ListN.{getD};
 ghost use Rattle.mask.specs.Mask.{bit};
-ghost use Rattle.arrays.specs.Arrays.{InRange};
-ghost use Rattle.position.specs.Position.{fitsIn};
-ghost use Rattle.turn_words.specs.TurnRoom.{zeroed};
-ghost use Rattle.search_run.specs.Run.{roomNeeded, Posed};
-ghost use Rattle.marking.specs.Marks.{WinsWith, Wins, withValue};
+ghost use Rattle.search_words.specs.TurnRoom.{zeroed};
+ghost use Rattle.search_run.specs.Run.{roomWords};
+ghost use Rattle.marking.specs.Marks.{Asked, WinsWith, Wins, withValue};
 use mask::lowest;
 use mask::rest_of;
 use mask::single;
@@ -16,6 +14,10 @@ use position::Position;
 use position::pushed;
 use rule_set::RuleSet;
 use search_run::run;
+use solver_arrays::Index;
+use solver_arrays::Near;
+use solver_arrays::Rows;
+use solver_arrays::Variables;
 
 // The winning values of a position's next variable, and its domain.
 pub struct Marks {
@@ -25,31 +27,20 @@ pub struct Marks {
 
 // Whether value a of the next variable wins when played.
 fn wins_with(
-    near: &[u32; 32],
-    index: &[u16; 1024],
-    rows: &[u16; 15888],
-    n: usize,
-    universal: u32,
-    domains: &[u16; 32],
+    near: &Near,
+    index: &Index,
+    rows: &Rows,
+    v: Variables,
     set: RuleSet,
     p: Position,
     a: usize,
     room: &mut [u16],
 ) -> bool
-    requires { ⌜ (n ≤ 32) × (p .plays < n) × (a < 16) × T (bit (getD (now domains) (p .plays) 0) a) × T (fitsIn p n (now domains)) × (roomNeeded n ≤ length (now room)) × InRange (now index) × Posed n universal (now near) (now index) (now rows) (now domains) ⌝ }
-    ensures { λ r. ⌜ WinsWith n universal (now (near .entry)) (now (index .entry)) (now (rows .entry)) (now (domains .entry)) (set .bits) p a r × (now (room .exit) ≡ zeroed 0 (roomNeeded n) (now (room .entry))) ⌝ }
+    requires { ⌜ Asked v (now near) (now index) (now rows) p (now room) × (a < 16) × T (bit (getD (v .domains) (p .plays) 0) a) ⌝ }
+    ensures { λ r. ⌜ WinsWith v (now (near .entry)) (now (index .entry)) (now (rows .entry)) (set .bits) p a r
+        × (now (room .exit) ≡ zeroed 0 (roomWords (v .n)) (now (room .entry))) ⌝ }
 {
-    run(
-        near,
-        index,
-        rows,
-        n,
-        universal,
-        domains,
-        set,
-        pushed(p, a as u8),
-        room,
-    ).won
+    run(near, index, rows, v, set, pushed(p, a as u8), room).won
 }
 
 // The mask m with value a in it where it wins.
@@ -70,26 +61,25 @@ fn next_domain(domains: &[u16; 32], d: usize) -> u16
 
 // The values of the next variable that win, and its domain.
 pub fn winning_values(
-    near: &[u32; 32],
-    index: &[u16; 1024],
-    rows: &[u16; 15888],
-    n: usize,
-    universal: u32,
-    domains: &[u16; 32],
+    near: &Near,
+    index: &Index,
+    rows: &Rows,
+    v: Variables,
     set: RuleSet,
     p: Position,
     room: &mut [u16],
 ) -> Marks
-    requires { ⌜ (n ≤ 32) × (p .plays < n) × T (fitsIn p n (now domains)) × (roomNeeded n ≤ length (now room)) × InRange (now index) × Posed n universal (now near) (now index) (now rows) (now domains) ⌝ }
-    ensures { λ r. ⌜ Wins n universal (now (near .entry)) (now (index .entry)) (now (rows .entry)) (now (domains .entry)) (set .bits) p (r .winning) (r .domain) × (now (room .exit) ≡ zeroed 0 (roomNeeded n) (now (room .entry))) ⌝ }
+    requires { ⌜ Asked v (now near) (now index) (now rows) p (now room) ⌝ }
+    ensures { λ r. ⌜ Wins v (now (near .entry)) (now (index .entry)) (now (rows .entry)) (set .bits) p (r .winning) (r .domain)
+        × (now (room .exit) ≡ zeroed 0 (roomWords (v .n)) (now (room .entry))) ⌝ }
 {
-    let d = p.plays;
-    let m = next_domain(domains, d);
+    let domains = v.domains;
+    let m = next_domain(&domains, p.plays);
     let mut won: u16 = 0;
     let mut left = m;
     while left != 0 {
         let a = lowest(left) as usize;
-        let w = wins_with(near, index, rows, n, universal, domains, set, p, a, room);
+        let w = wins_with(near, index, rows, v, set, p, a, room);
         won = with_value(won, a, w);
         left = rest_of(left);
     }

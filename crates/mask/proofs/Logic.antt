@@ -1,6 +1,6 @@
 -- Tests as types. `T b` of the kit is the type that holds where b is true; these lemmas go between it and equations.
-use mathlib.Core.Path.{_≡_, refl}
-use mathlib.Core.Bool.{Bool, true, false, not, _&&_, _||_}
+use mathlib.Core.Path.{_≡_, refl, sym}
+use mathlib.Core.Bool.{Bool, true, false, _&&_, _||_}
 use Prim.Native.Nat.{ℕ, _<_, _≤_}
 use native.Mathlib.Omega.{arith}
 use native.Mathlib.Decide.{ℕ-discrete, decLt}
@@ -60,3 +60,13 @@ or-right false b t = t
 pub or-out : {A : Type 0} (a b : Bool) → T (a || b) → (T a → A) → (T b → A) → A
 or-out true b t f g = f tt
 or-out false b t f g = g t
+
+-- A disjunction that fails: each part does.
+pub or-out-false : (a b : Bool) → (a || b) ≡ false → (a ≡ false) × (b ≡ false)
+or-out-false true b e = absurd (true-holds (sym e))
+or-out-false false b e = (refl, e)
+
+-- A part that follows from the other.
+pub and-keep : (a b : Bool) → (T a → T b) → (a && b) ≡ a
+and-keep true b f = holds (f tt)
+and-keep false b f = refl

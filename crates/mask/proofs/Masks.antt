@@ -1,20 +1,20 @@
 -- Laws of masks: made of a test, and read back from one; empty; met with a complement.
 use mathlib.Core.Path.{_≡_, refl, sym, ap, ap₂, _∙_}
 use mathlib.Core.Bool.{Bool, true, false, cond, not, _&&_, _||_, or-false, or-true}
-use Prim.Native.Nat.{ℕ, zero, suc, _+_, _-_, _/_, _%_, _^_, _≤_, _<_}
+use mathlib.Core.Bool.{and-assoc as Bool·and-assoc, or-assoc as Bool·or-assoc}
+use Prim.Native.Nat.{ℕ, zero, suc, _-_, _/_, _%_, _^_, _<_}
 use native.Mathlib.Nat.{le-refl, pow-suc, lt-of-le-of-lt}
 use native.Mathlib.Decide.{ℕ-discrete}
-use native.Mathlib.Numerals.{add-one}
 use native.Mathlib.Omega.{arith}
-use lib.Dec.{T, eqb, eqb→eq}
+use lib.Dec.{eqb, eqb→eq}
 use lib.Bits.{bitAnd, bitOr, or-lt, xor-lt, and-le-l}
 use lib.Pow.{pow-lt}
 use borrow.Author.Tests.{eq-eqb, ne-eqb}
 use Rattle.mask.specs.Range.{some, each}
 use Rattle.mask.specs.Mask.{bit, maskOf, diff}
-use Rattle.mask.proofs.Logic.{same, holds, true-holds, fails, clash, test, and-out, and-in}
+use Rattle.mask.proofs.Logic.{same, holds, true-holds, fails, clash, test, and-out, and-keep}
 use Rattle.mask.proofs.Range.{some-out, some-in, each-out, each-in}
-use Rattle.mask.proofs.Bits.{bit-or, bit-single, bit-of-zero, bit-none, bit-high, bit-suc, bit-zero, bit-ext, bit-and, bit-diff}
+use Rattle.mask.proofs.Bits.{bit-or, bit-single, bit-of-zero, bit-none, bit-high, bit-suc, bit-zero, bit-ext, bit-and}
 
 -- The bits of a mask that is made of a test.
 pub maskOf-lt : (n : ℕ) (p : ℕ → Bool) → maskOf n p < 2 ^ n
@@ -37,16 +37,6 @@ bit-maskOf (suc n) p k h = go (ℕ-discrete k n) (p n) refl (λ l. bit-maskOf n 
     go (no d) true e r = bit-or (maskOf n p) (2 ^ n) k ∙ rw (bit-single n k, ne-eqb k n d, or-false (bit (maskOf n p) k)) (r (omega arith))
     go (no d) false e r = r (omega arith)
 
--- One turn of a loop that makes a mask.
-module _ (p : ℕ → Bool) (a w : ℕ) (e : w ≡ maskOf a p) where
-  pub mask-in : p a ≡ true → bitOr w (2 ^ a) ≡ maskOf (a + 1) p
-  unfolding maskOf
-  mask-in t = rw (add-one, t) (ap (λ (x : ℕ). bitOr x (2 ^ a)) e)
-
-  pub mask-out : p a ≡ false → w ≡ maskOf (a + 1) p
-  unfolding maskOf
-  mask-out t = rw (add-one, t) e
-
 -- The complement within n places.
 pub bit-not : (n w k : ℕ) → w < 2 ^ n → k < n → bit (2 ^ n - 1 - w) k ≡ not (bit w k)
 bit-not zero w k h l = absurd (omega arith)
@@ -63,15 +53,10 @@ bit-not (suc n) w (suc k) h l =
     half : (2 ^ suc n - 1 - w) / 2 ≡ 2 ^ n - 1 - w / 2
     half = let p = pow-suc 2 n in omega arith
 
--- Less is no wider, and is the meet with the complement.
+-- Less is no wider.
 pub diff-lt : (n m w : ℕ) → m < 2 ^ n → diff m w < 2 ^ n
 unfolding diff
 diff-lt n m w h = xor-lt n m (bitAnd m w) h (lt-of-le-of-lt (and-le-l m w) h)
-
-pub and-not : (n m w : ℕ) → m < 2 ^ n → w < 2 ^ n → bitAnd m (2 ^ n - 1 - w) ≡ diff m w
-and-not n m w hm hw =
-    bit-ext n (bitAnd m (2 ^ n - 1 - w)) (diff m w) (lt-of-le-of-lt (and-le-l m (2 ^ n - 1 - w)) hm) (diff-lt n m w hm)
-    (λ k l. bit-and m (2 ^ n - 1 - w) k ∙ ap (λ (b : Bool). bit m k && b) (bit-not n w k hw l) ∙ sym (bit-diff m w k))
 
 -- Masks made of tests: met, and made of a mask's own bits.
 pub maskOf-and : (n : ℕ) (p q : ℕ → Bool) → bitAnd (maskOf n p) (maskOf n q) ≡ maskOf n (λ (k : ℕ). p k && q k)
@@ -91,6 +76,17 @@ maskOf-same n p q e = bit-ext n _ _ (maskOf-lt n p) (maskOf-lt n q) (λ k h. bit
 pub maskOf-bits : (n m : ℕ) → m < 2 ^ n → m ≡ maskOf n (bit m)
 maskOf-bits n m h = bit-ext n m (maskOf n (bit m)) h (maskOf-lt n (bit m)) (λ k l. sym (bit-maskOf n (bit m) k l))
 
+-- Three masks met, and joined, in either order.
+pub and-assoc : (n a b c : ℕ) → a < 2 ^ n → bitAnd (bitAnd a b) c ≡ bitAnd a (bitAnd b c)
+and-assoc n a b c h =
+    bit-ext n (bitAnd (bitAnd a b) c) (bitAnd a (bitAnd b c)) (lt-of-le-of-lt (and-le-l (bitAnd a b) c) (lt-of-le-of-lt (and-le-l a b) h)) (lt-of-le-of-lt (and-le-l a (bitAnd b c)) h)
+    λ k l. rw (bit-and (bitAnd a b) c k, bit-and a b k, bit-and a (bitAnd b c) k, bit-and b c k) (Bool·and-assoc (bit a k) (bit b k) (bit c k))
+
+pub or-assoc : (n a b c : ℕ) → a < 2 ^ n → b < 2 ^ n → c < 2 ^ n → bitOr (bitOr a b) c ≡ bitOr a (bitOr b c)
+or-assoc n a b c h k l =
+    bit-ext n (bitOr (bitOr a b) c) (bitOr a (bitOr b c)) (or-lt n (bitOr a b) c (or-lt n a b h k) l) (or-lt n a (bitOr b c) h (or-lt n b c k l))
+    λ v _. rw (bit-or (bitOr a b) c v, bit-or a b v, bit-or a (bitOr b c) v, bit-or b c v) (Bool·or-assoc (bit a v) (bit b v) (bit c v))
+
 -- A mask of n places is empty where it holds nothing.
 pub empty-some : (n m : ℕ) → m < 2 ^ n → eqb m 0 ≡ not (some n (bit m) (λ k. true))
 empty-some n m h =
@@ -103,11 +99,7 @@ pub within-each : (n m w : ℕ) → m < 2 ^ n → eqb (bitAnd m w) m ≡ each n 
 within-each n m w h =
     same (eqb (bitAnd m w) m) (each n (bit m) (bit w))
     (λ t. each-in n (bit m) (bit w) λ k l b. and-out (bit m k) (bit w k) (rw (← (bit-and m w k), eqb→eq (bitAnd m w) m t) b) .1)
-    (λ t. true-holds (eq-eqb (bitAnd m w) m (bit-ext n (bitAnd m w) m (lt-of-le-of-lt (and-le-l m w) h) h λ k l. bit-and m w k ∙ keep (bit m k) (bit w k) (each-out n (bit m) (bit w) t k l))))
-  where
-    keep : (a b : Bool) → (T a → T b) → (a && b) ≡ a
-    keep true b f = holds (f tt)
-    keep false b f = refl
+    (λ t. true-holds (eq-eqb (bitAnd m w) m (bit-ext n (bitAnd m w) m (lt-of-le-of-lt (and-le-l m w) h) h λ k l. bit-and m w k ∙ and-keep (bit m k) (bit w k) (each-out n (bit m) (bit w) t k l))))
 
 pub empty-each : (n m : ℕ) → m < 2 ^ n → eqb m 0 ≡ each n (bit m) (λ k. false)
 empty-each n m h =

@@ -1,20 +1,20 @@
 -- The lowest member of a mask and the rest: what a loop over the members of a mask goes by, at every width.
-use mathlib.Core.Path.{_≡_, refl, sym, ap, ap₂, _∙_, fun-ext}
-use mathlib.Core.Bool.{Bool, true, false, cond, not, _&&_, _||_}
-use Prim.Native.Nat.{ℕ, zero, suc, _+_, _-_, _*_, _/_, _%_, _^_, _≤_, _<_}
-use native.Mathlib.Nat.{pow-suc}
+use mathlib.Core.Path.{_≡_, refl, sym, ap, _∙_, fun-ext, ap₂}
+use mathlib.Core.Bool.{Bool, true, false, cond, not, _&&_, _||_, and-true, and-false, Bool·beq}
+use Prim.Native.Nat.{ℕ, zero, suc, _+_, _-_, _/_, _%_, _^_, _≤_, _<_}
+use native.Mathlib.Nat.{pow-suc, lt-of-le-of-lt}
 use native.Mathlib.Numerals.{add-one}
 use native.Mathlib.Omega.{arith}
-use lib.Dec.{T, eqb, ltb, eqb·zero-suc, eqb·suc-zero, eqb·suc-suc, eqb-refl}
-use lib.Bits.{bitAnd, and-le-r}
-use lib.Pow.{pow-pos}
-use borrow.Author.Tests.{eq-eqb, ne-eqb, lt-ltb, le-ltb}
+use lib.Dec.{T, eqb, ltb, eqb·suc-zero, eqb·suc-suc, eqb→eq}
+use lib.Bits.{bitAnd, and-le-r, bitOr, or-lt}
+use lib.Pow.{pow-pos, pow-mono, pow-lt}
+use borrow.Author.Tests.{ne-eqb, lt-ltb, le-ltb, eq-eqb}
 use Rattle.mask.specs.Range.{some, each, first}
-use Rattle.mask.specs.Mask.{bit, rest, above}
-use Rattle.mask.proofs.Logic.{same, holds, fails, clash, true-holds, test, by-eq, by-lt, and-in, and-out, or-left, or-right, or-out}
-use Rattle.mask.proofs.Range.{some-out, some-in, each-out, each-in, first-of, first-below, first-is, first-least, first-none}
-use Rattle.mask.proofs.Bits.{bit-and, bit-diff, bit-zero, bit-suc, bit-none, bit-high, bit-of-zero}
-use Rattle.mask.proofs.Masks.{bit-not, diff-lt}
+use Rattle.mask.specs.Mask.{bit, rest, above, maskOf}
+use Rattle.mask.proofs.Logic.{same, fails, clash, true-holds, test, by-eq, by-lt, and-in, and-out, or-left, or-right, or-out, holds}
+use Rattle.mask.proofs.Range.{some-out, some-in, each-out, each-in, first-of, first-below, first-is, first-least, first-none, first-agree}
+use Rattle.mask.proofs.Bits.{bit-and, bit-diff, bit-zero, bit-suc, bit-none, bit-high, bit-of-zero, bit-single, bit-ext, bit-or}
+use Rattle.mask.proofs.Masks.{bit-not, diff-lt, maskOf-lt, bit-maskOf}
 
 pub rest-lt : (m : ℕ) → ¬ (m ≡ 0) → rest m < m
 unfolding rest
@@ -104,11 +104,27 @@ module _ (w m : ℕ) (h : m < 2 ^ w) (z : ¬ (m ≡ 0)) (f : ℕ → Bool) where
 pub ones-to : (k : ℕ) → 2 ^ k + (2 ^ k - 1) ≡ 2 ^ (k + 1) - 1
 ones-to k = let p = pow-pos k in rw (add-one, pow-suc) (omega arith)
 
-bit-ones : (n k : ℕ) → bit (2 ^ n - 1) k ≡ ltb k n
+-- The mask of all numbers below n.
+pub bit-ones : (n k : ℕ) → bit (2 ^ n - 1) k ≡ ltb k n
 bit-ones n k =
     by-lt k n
     (λ l. let e : 2 ^ n - 1 ≡ 2 ^ n - 1 - 0 = omega arith in ap (λ (x : ℕ). bit x k) e ∙ bit-not n 0 k (pow-pos n) l ∙ ap not (bit-of-zero k) ∙ sym (lt-ltb k n l))
     (λ l. bit-high n (2 ^ n - 1) k (let p = pow-pos n in omega arith) l ∙ sym (le-ltb k n l))
+
+pub ones-lt : (w n : ℕ) → n ≤ w → 2 ^ n - 1 < 2 ^ w
+ones-lt w n h = let p = pow-pos n in let q = pow-mono {i = n} {j = w} h in omega arith
+
+-- The values below a: some of them passes where one of the mask's members below a does.
+pub some-below : (n a m : ℕ) (f : ℕ → Bool) → a ≤ n → some n (bit (bitAnd m (2 ^ a - 1))) f ≡ some a (bit m) f
+some-below n a m f h =
+    same (some n (bit (bitAnd m (2 ^ a - 1))) f) (some a (bit m) f)
+    (λ t. let r = some-out n (bit (bitAnd m (2 ^ a - 1))) f t in
+    let b = and-out (bit m (r .0)) (bit (2 ^ a - 1) (r .0)) (rw (bit-and m (2 ^ a - 1) (r .0)) at (r .2)) in
+    by-lt (r .0) a (λ l. some-in a (bit m) f (r .0) l (b .0) (r .3))
+    (λ l. absurd (clash (bit-ones a (r .0) ∙ le-ltb (r .0) a l) (b .1))))
+    (λ t. let r = some-out a (bit m) f t in
+    some-in n (bit (bitAnd m (2 ^ a - 1))) f (r .0) (omega (arith, r .1))
+    (rw (bit-and m (2 ^ a - 1) (r .0)) (and-in (bit m (r .0)) (bit (2 ^ a - 1) (r .0)) (r .2) (true-holds (bit-ones a (r .0) ∙ lt-ltb (r .0) a (r .1))))) (r .3))
 
 -- What is above k of a mask: those of its members, within its places.
 pub bit-above : (m k j : ℕ) → bit (above m k) j ≡ (bit m j && ltb k j)
@@ -122,25 +138,113 @@ pub above-lt : (w m k : ℕ) → m < 2 ^ w → above m k < 2 ^ w
 unfolding above
 above-lt w m k h = diff-lt w m (2 ^ (k + 1) - 1) h
 
--- The first member that passes a test: the lowest where it does, else the first of the rest.
-module _ (w m : ℕ) (h : m < 2 ^ w) (z : ¬ (m ≡ 0)) (f : ℕ → Bool) where
-  pub first-rest-here : T (f (first w (bit m))) → first w (λ k. bit m k && f k) ≡ first w (bit m)
-  first-rest-here t =
-      first-is w (λ k. bit m k && f k) (first w (bit m)) (low-lt w m h z) (and-in (bit m (first w (bit m))) (f (first w (bit m))) (low-in w m h z) t)
-      (λ j l. ap (λ (b : Bool). b && f j) (first-least w (bit m) j l))
+-- The first member below v that passes a test: the lowest where it does, else the first of the rest.
+module _ (v w m : ℕ) (h : m < 2 ^ w) (z : ¬ (m ≡ 0)) (f : ℕ → Bool) where
+  pub first-found : first w (bit m) < v → T (f (first w (bit m))) → first v (λ k. bit m k && f k) ≡ first w (bit m)
+  first-found l t =
+      first-is v (λ k. bit m k && f k) (first w (bit m)) l (and-in (bit m (first w (bit m))) (f (first w (bit m))) (low-in w m h z) t)
+      (λ j r. ap (λ (b : Bool). b && f j) (first-least w (bit m) j r))
 
-  pub first-rest-on : f (first w (bit m)) ≡ false → first w (λ k. bit m k && f k) ≡ first w (λ k. bit (rest m) k && f k)
-  first-rest-on e = ap (first w) (fun-ext λ k. by-eq k (first w (bit m)) (λ d. rw (d, e, bit-rest w m h z (first w (bit m)), eq-eqb (first w (bit m)) (first w (bit m)) refl) (both (bit m (first w (bit m)))))
-      (λ d. rw (bit-rest w m h z k, ne-eqb k (first w (bit m)) d) (keep (bit m k) (f k))))
-    where
-      both : (b : Bool) → (b && false) ≡ ((b && false) && false)
-      both true = refl
-      both false = refl
-
-      keep : (a b : Bool) → (a && b) ≡ ((a && true) && b)
-      keep true b = refl
-      keep false b = refl
+  pub first-on : f (first w (bit m)) ≡ false → first v (λ k. bit m k && f k) ≡ first v (λ k. bit (rest m) k && f k)
+  first-on e = first-agree v (λ k. bit m k && f k) (λ k. bit (rest m) k && f k) λ k _. by-eq k (first w (bit m))
+      (λ d. rw (d, e, and-false (bit m (first w (bit m))), and-false (bit (rest m) (first w (bit m)))))
+      (λ d. rw (bit-rest w m h z k, ne-eqb k (first w (bit m)) d, and-true (bit m k)))
 
 -- An empty mask has no member that passes.
 pub first-empty : (w m : ℕ) (f : ℕ → Bool) → m ≡ 0 → first w (λ k. bit m k && f k) ≡ w
 first-empty w m f e = first-none w (λ k. bit m k && f k) λ k l. rw (e, bit-of-zero k)
+
+-- The members of m that pass g: the lowest, if it passes, and those of the rest.
+pub passing-rest :
+    (n m : ℕ) (g : ℕ → Bool) → m < 2 ^ n → ¬ (m ≡ 0)
+    → maskOf n (λ a. bit m a && g a) ≡ bitOr (cond (g (first n (bit m))) (2 ^ first n (bit m)) 0) (maskOf n (λ a. bit (rest m) a && g a))
+passing-rest n m g h z =
+    bit-ext n (maskOf n (λ a. bit m a && g a)) (bitOr one rested) (maskOf-lt n _) (or-lt n one rested (one-lt (g low)) (maskOf-lt n _)) λ k l.
+    bit-maskOf n (λ a. bit m a && g a) k l
+    ∙ sym (bit-or one rested k ∙ ap₂ _||_ (bit-one (g low) k) (bit-maskOf n (λ a. bit (rest m) a && g a) k l ∙ ap (λ b. b && g k) (bit-rest n m h z k)) ∙ parts k)
+  where
+    low : ℕ
+    low = first n (bit m)
+
+    one : ℕ
+    one = cond (g low) (2 ^ low) 0
+
+    rested : ℕ
+    rested = maskOf n (λ a. bit (rest m) a && g a)
+
+    one-lt : (b : Bool) → cond b (2 ^ low) 0 < 2 ^ n
+    one-lt true = pow-lt (low-lt n m h z)
+    one-lt false = pow-pos n
+
+    bit-one : (b : Bool) (k : ℕ) → bit (cond b (2 ^ low) 0) k ≡ (b && eqb k low)
+    bit-one true k = bit-single low k
+    bit-one false k = bit-of-zero k
+
+    parts : (k : ℕ) → (g low && eqb k low || (bit m k && not (eqb k low)) && g k) ≡ (bit m k && g k)
+    parts k =
+        by-eq k low
+        (λ e. rw (e, eq-eqb low low refl, holds {b = bit m low} (low-in n m h z)) (at (g low)))
+        (λ e. rw (ne-eqb k low e) (away (g low) (bit m k) (g k)))
+      where
+        at : (b : Bool) → (b && true || false) ≡ b
+        at true = refl
+        at false = refl
+
+        away : (b c d : Bool) → (b && false || (c && true) && d) ≡ (c && d)
+        away true true d = refl
+        away true false d = refl
+        away false true d = refl
+        away false false d = refl
+
+-- Two masks meet m in the same values.
+pub same-within : (n r s m : ℕ) → m < 2 ^ n → eqb (bitAnd r m) (bitAnd s m) ≡ each n (bit m) (λ c. Bool·beq (bit r c) (bit s c))
+same-within n r s m h =
+    same (eqb (bitAnd r m) (bitAnd s m)) (each n (bit m) (λ c. Bool·beq (bit r c) (bit s c)))
+    (λ t. each-in n (bit m) (λ c. Bool·beq (bit r c) (bit s c)) λ c l b.
+    met (bit r c) (bit s c) (bit m c) b (sym (bit-and r m c) ∙ ap (λ (y : ℕ). bit y c) (eqb→eq (bitAnd r m) (bitAnd s m) t) ∙ bit-and s m c))
+    (λ t. true-holds (eq-eqb (bitAnd r m) (bitAnd s m)
+    (bit-ext n (bitAnd r m) (bitAnd s m) (lt-of-le-of-lt (and-le-r r m) h) (lt-of-le-of-lt (and-le-r s m) h) λ c l.
+    bit-and r m c ∙ meets (bit r c) (bit s c) (bit m c) (each-out n (bit m) (λ c. Bool·beq (bit r c) (bit s c)) t c l) ∙ sym (bit-and s m c))))
+  where
+    met : (a b c : Bool) → T c → (a && c) ≡ (b && c) → T (Bool·beq a b)
+    met true true true t e = tt
+    met true false true t e = true-holds (sym e)
+    met false true true t e = true-holds e
+    met false false true t e = tt
+    met a b false t e = absurd t
+
+    meets : (a b c : Bool) → (T c → T (Bool·beq a b)) → (a && c) ≡ (b && c)
+    meets true true c f = refl
+    meets true false true f = absurd (f tt)
+    meets true false false f = refl
+    meets false true true f = absurd (f tt)
+    meets false true false f = refl
+    meets false false c f = refl
+
+-- Loops over the members of m that leave early: where k is the lowest member, what it says decides, or the rest does.
+module _ (n m : ℕ) (h : m < 2 ^ n) (z : ¬ (m ≡ 0)) (f : ℕ → Bool) (all : Bool) (k : ℕ) (low : k ≡ first n (bit m)) where
+  lowest-test : f k ≡ f (first n (bit m))
+  lowest-test = ap f low
+
+  pub each-next : (v : ℕ) → f k ≡ true → v ≡ rest m → all ≡ each n (bit m) f → all ≡ each n (bit v) f
+  each-next v t r e = e ∙ each-rest n m h z f ∙ ap₂ (λ b y. b && each n (bit y) f) (sym lowest-test ∙ t) (sym r)
+
+  pub each-stop : f k ≡ false → all ≡ each n (bit m) f → false ≡ all
+  each-stop t e = sym (e ∙ each-rest n m h z f ∙ ap (λ b. b && each n (bit (rest m)) f) (sym lowest-test ∙ t))
+
+  pub some-next : (v : ℕ) → f k ≡ false → v ≡ rest m → all ≡ some n (bit m) f → all ≡ some n (bit v) f
+  some-next v t r e = e ∙ some-rest n m h z f ∙ ap₂ (λ b y. b || some n (bit y) f) (sym lowest-test ∙ t) (sym r)
+
+  pub some-stop : f k ≡ true → all ≡ some n (bit m) f → true ≡ all
+  some-stop t e = sym (e ∙ some-rest n m h z f ∙ ap (λ b. b || some n (bit (rest m)) f) (sym lowest-test ∙ t))
+
+-- No member is left.
+module _ (n m : ℕ) (z : m ≡ 0) (f : ℕ → Bool) (all : Bool) where
+  no-member : (k : ℕ) → T (bit m k) → ⊥
+  no-member k = clash (ap (λ (y : ℕ). bit y k) z ∙ bit-of-zero k)
+
+  pub each-end : all ≡ each n (bit m) f → true ≡ all
+  each-end e = sym (e ∙ holds (each-in n (bit m) f λ k l b. absurd (no-member k b)))
+
+  pub some-end : all ≡ some n (bit m) f → false ≡ all
+  some-end e = sym (e ∙ fails λ t. let r = some-out n (bit m) f t in no-member (r .0) (r .2))

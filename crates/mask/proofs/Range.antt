@@ -1,12 +1,13 @@
 -- Laws of tests over a range: `each` against a function, `some` against a witness; bounds of `count` and `first`.
-use mathlib.Core.Path.{_≡_, refl, ap, ap₂}
-use mathlib.Core.Bool.{Bool, true, false, cond, not, _&&_, _||_}
-use Prim.Native.Nat.{ℕ, zero, suc, _+_, _≤_, _<_}
+use mathlib.Core.Path.{_≡_, refl, sym, ap, ap₂, _∙_}
+use mathlib.Core.Bool.{Bool, true, false, cond, not, _&&_, _||_, and-false, or-false}
+use Prim.Native.Nat.{ℕ, zero, suc, _≤_, _<_}
 use native.Mathlib.Nat.{le-refl}
 use native.Mathlib.Omega.{arith}
-use lib.Dec.{T}
+use lib.Dec.{T, eqb, ltb}
+use borrow.Author.Tests.{eq-eqb, ne-eqb, lt-ltb, le-ltb}
 use Rattle.mask.specs.Range.{some, each, count, first}
-use Rattle.mask.proofs.Logic.{clash, by-eq, by-lt, and-in, and-out}
+use Rattle.mask.proofs.Logic.{same, holds, fails, clash, by-eq, by-lt, and-in, and-out, or-left, or-right}
 
 -- `each` is a function, `some` a witness.
 pub each-out : (v : ℕ) (d f : ℕ → Bool) → T (each v d f) → (a : ℕ) → a < v → T (d a) → T (f a)
@@ -36,6 +37,11 @@ unfolding each
 each-eq zero d f g e = refl
 each-eq (suc v) d f g e = ap₂ _&&_ (ap (λ (b : Bool). not (d v) || b) (e v (omega arith))) (each-eq v d f g (λ a l. e a (omega arith)))
 
+pub some-eq : (v : ℕ) (d f g : ℕ → Bool) → ((a : ℕ) → a < v → f a ≡ g a) → some v d f ≡ some v d g
+unfolding some
+some-eq zero d f g e = refl
+some-eq (suc v) d f g e = ap₂ _||_ (ap (λ (b : Bool). d v && b) (e v (omega arith))) (some-eq v d f g (λ a l. e a (omega arith)))
+
 pub some-out : (v : ℕ) (d f : ℕ → Bool) → T (some v d f) → (a : ℕ) × (a < v) × T (d a) × T (f a)
 unfolding some
 some-out zero d f t = absurd t
@@ -51,16 +57,46 @@ pub some-in : (v : ℕ) (d f : ℕ → Bool) (a : ℕ) → a < v → T (d a) →
 unfolding some
 some-in zero d f a h m t = absurd (omega arith)
 some-in (suc v) d f a h m t =
-    by-eq a v (λ e. left (d v) (f v) (some v d f) (rw e at m) (rw e at t)) (λ e. right (d v && f v) (some v d f) (some-in v d f a (omega arith) m t))
+    by-eq a v (λ e. left (d v) (f v) (some v d f) (rw e at m) (rw e at t)) (λ e. or-right (d v && f v) (some v d f) (some-in v d f a (omega arith) m t))
   where
     left : (x y z : Bool) → T x → T y → T (x && y || z)
     left true true z s t = tt
     left true false z s t = absurd t
     left false y z s t = absurd s
 
-    right : (x z : Bool) → T z → T (x || z)
-    right true z t = tt
-    right false z t = t
+-- Domains that agree.
+pub some-over : (v : ℕ) (d e f : ℕ → Bool) → ((k : ℕ) → k < v → d k ≡ e k) → some v d f ≡ some v e f
+some-over v d e f q =
+    same (some v d f) (some v e f) (λ t. let r = some-out v d f t in some-in v e f (r .0) (r .1) (rw (← (q (r .0) (r .1))) (r .2)) (r .3))
+    (λ t. let r = some-out v e f t in some-in v d f (r .0) (r .1) (rw (q (r .0) (r .1)) (r .2)) (r .3))
+
+-- Domain and test as one.
+pub some-joint : (v : ℕ) (d f : ℕ → Bool) → some v d f ≡ some v (λ k. d k && f k) (λ k. true)
+some-joint v d f =
+    same (some v d f) (some v (λ k. d k && f k) (λ k. true))
+    (λ t. let r = some-out v d f t in some-in v (λ k. d k && f k) (λ k. true) (r .0) (r .1) (and-in (d (r .0)) (f (r .0)) (r .2) (r .3)) tt)
+    (λ t. let r = some-out v (λ k. d k && f k) (λ k. true) t in let q = and-out (d (r .0)) (f (r .0)) (r .2) in some-in v d f (r .0) (r .1) (q .0) (q .1))
+
+-- Nothing passes a test that always fails; a test in front of all.
+pub some-never : (v : ℕ) (d : ℕ → Bool) → some v d (λ a. false) ≡ false
+unfolding some
+some-never zero d = refl
+some-never (suc v) d = rw (some-never v d) (or-false (d v && false) ∙ and-false (d v))
+
+pub some-front : (v : ℕ) (d f : ℕ → Bool) (b : Bool) → (b && some v d f) ≡ some v d (λ a. b && f a)
+some-front v d f true = refl
+some-front v d f false = sym (some-never v d)
+
+-- Each passes where none fails.
+pub each-none : (v : ℕ) (d f : ℕ → Bool) → each v d f ≡ not (some v d (λ b. not (f b)))
+unfolding each some
+each-none zero d f = refl
+each-none (suc v) d f = go (d v) (f v) (each v d f) (some v d (λ b. not (f b))) (each-none v d f)
+  where
+    go : (x y e s : Bool) → e ≡ not s → ((not x || y) && e) ≡ not (x && not y || s)
+    go true true e s h = h
+    go true false e s h = refl
+    go false y e s h = h
 
 -- No more pass than there are.
 pub count-bound : (n : ℕ) (p : ℕ → Bool) → count n p ≤ n
@@ -123,6 +159,10 @@ first-below (suc n) p (suc k) h t = go (p zero) (first-below n (λ (j : ℕ). p 
     go true l = omega arith
     go false l = omega arith
 
+-- `first` of a test that some number below n passes is below n and passes.
+pub first-in : (n : ℕ) (q : ℕ → Bool) (k : ℕ) → k < n → T (q k) → (first n q < n) × T (q (first n q))
+first-in n q k h t = let l = first-below n q k h t in (l, first-of n q l)
+
 -- `first` is no more than the bound, is the bound where no number passes, and is the number that passes where none before it does.
 pub first-most : (n : ℕ) (p : ℕ → Bool) → first n p ≤ n
 unfolding first
@@ -140,3 +180,29 @@ pub first-is : (n : ℕ) (p : ℕ → Bool) (k : ℕ) → k < n → T (p k) → 
 first-is n p k h t e =
     by-lt (first n p) k (λ l. absurd (clash (e (first n p) l) (first-of n p (omega arith))))
     λ l. by-lt k (first n p) (λ m. absurd (clash (first-least n p k m) t)) (λ m. omega arith)
+
+-- Tests that agree below n have the same first.
+pub first-agree : (n : ℕ) (p q : ℕ → Bool) → ((k : ℕ) → k < n → p k ≡ q k) → first n p ≡ first n q
+unfolding first
+first-agree zero p q e = refl
+first-agree (suc n) p q e =
+    ap₂ (λ (b : Bool) (k : ℕ). cond b zero (suc k)) (e 0 (omega arith)) (first-agree n (λ k. p (suc k)) (λ k. q (suc k)) (λ k h. e (suc k) (omega arith)))
+
+-- Some number passes where the first is below the bound.
+pub first-some : (n : ℕ) (d f : ℕ → Bool) → some n d f ≡ ltb (first n (λ k. d k && f k)) n
+first-some n d f = by-lt (first n (λ k. d k && f k)) n
+    (λ h. let t = and-out (d (first n (λ k. d k && f k))) (f (first n (λ k. d k && f k))) (first-of n (λ k. d k && f k) h) in
+    holds (some-in n d f (first n (λ k. d k && f k)) h (t .0) (t .1)) ∙ sym (lt-ltb (first n (λ k. d k && f k)) n h))
+    (λ h. fails (λ t. let r = some-out n d f t in let l = first-below n (λ k. d k && f k) (r .0) (r .1) (and-in (d (r .0)) (f (r .0)) (r .2) (r .3)) in omega arith)
+    ∙ sym (le-ltb (first n (λ k. d k && f k)) n h))
+
+-- One number more is tested, with outcome b.
+pub first-more : (n : ℕ) (p q : ℕ → Bool) (j : ℕ) (b : Bool) → j < n → ((k : ℕ) → k < n → q k ≡ (p k || (eqb k j && b)))
+    → cond (b && ltb j (first n p)) j (first n p) ≡ first n q
+first-more n p q j false h e = first-agree n p q λ k l. sym (e k l ∙ ap (λ (c : Bool). p k || c) (and-false (eqb k j)) ∙ or-false (p k))
+first-more n p q j true h e = by-lt j (first n p)
+    (λ l. rw (lt-ltb j (first n p) l)
+    (sym (first-is n q j h (rw (e j h, eq-eqb j j refl) (or-right (p j) true tt)) λ i r. e i (omega arith) ∙ rw (first-least n p i (omega arith), ne-eqb i j (omega arith)))))
+    (λ l. rw (le-ltb j (first n p) l)
+    (sym (first-is n q (first n p) (omega arith) (rw (e (first n p) (omega arith)) (or-left (p (first n p)) (eqb (first n p) j && true) (first-of n p (omega arith))))
+    λ i r. e i (omega arith) ∙ rw (first-least n p i r, ne-eqb i j (omega arith)))))

@@ -1,9 +1,9 @@
-// Sets of values as masks: bit k of a mask stands for value k. A domain is a mask of 16 bits, the universal variables
-// of a problem are one of 32. Every function here is for the other crates of this repository.
+// Sets of values as masks: bit k of a mask stands for value k. A domain is a mask of 16 bits, a set of variables one of 32. It rests
+// on no other crate. Every function here is for the other crates of this repository.
 ghost use mathlib.Core.Path.{_≡_};
-ghost use Prim.Native.Nat.{_<_, _≤_, _^_};
-ghost use lib.Bits.{bitAnd, bitOr};
-ghost use lib.Dec.{eqb};
+ghost use Prim.Native.Nat.{ℕ, _<_, _≤_, _^_};
+ghost use lib.Bits.{bitAnd};
+ghost use lib.Dec.{ltb};
 ghost use Rattle.mask.specs.Range.{each, count, first};
 ghost use Rattle.mask.specs.Mask.{bit, diff, rest, above};
 
@@ -39,18 +39,20 @@ pub fn single_32(k: usize) -> u32
     1 << k
 }
 
+// The mask of all numbers below n.
+pub fn everyone(n: usize) -> u32
+    requires { ⌜ n ≤ 32 ⌝ }
+    ensures { λ r. ⌜ ((k : ℕ) → bit r k ≡ ltb k n) ⌝ }
+{
+    let one: u64 = 1;
+    ((one << n) - 1) as u32
+}
+
 // The values that both masks hold.
 pub fn meet(m: u16, w: u16) -> u16
     ensures { λ r. ⌜ r ≡ bitAnd m w ⌝ }
 {
     m & w
-}
-
-// The values that either mask holds.
-pub fn join(m: u16, w: u16) -> u16
-    ensures { λ r. ⌜ r ≡ bitOr m w ⌝ }
-{
-    m | w
 }
 
 // The values of m that w lacks.
@@ -65,13 +67,6 @@ pub fn within(m: u16, w: u16) -> bool
     ensures { λ r. ⌜ r ≡ each 16 (bit m) (bit w) ⌝ }
 {
     m & w == m
-}
-
-// Whether the mask holds no value.
-pub fn is_empty(m: u16) -> bool
-    ensures { λ r. ⌜ r ≡ eqb m 0 ⌝ }
-{
-    m == 0
 }
 
 // How many values the mask holds.

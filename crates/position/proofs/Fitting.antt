@@ -2,11 +2,11 @@
 use mathlib.Core.Bool.{Bool, true, _&&_}
 use mathlib.Core.Path.{_≡_, refl, sym, ap, ap₂, _∙_}
 use mathlib.Core.List.{List, [], _∷_, _++_}
-use Prim.Native.Nat.{ℕ, zero, suc, _+_, _-_, _<_, _≤_}
+use Prim.Native.Nat.{ℕ, suc, _+_, _-_, _<_, _≤_}
 use native.Mathlib.Omega.{arith}
 use lib.Dec.{T, eqb, leb}
-use lib.ListN.{getD, length, take, drop, replicate, take-append-drop, length-drop, List·getD-append}
-use lib.Seq.{length-take-le, getD-drop, getD-take, getD-append-add}
+use lib.ListN.{getD, length, take, drop, replicate, take-append-drop, length-drop, List·getD-eq-default}
+use lib.Seq.{length-take-le, getD-drop, getD-take}
 use borrow.Author.Tests.{lt-ltb, le-ltb, leb-true, le-leb, eqb-true}
 use Rattle.mask.specs.Range.{each}
 use Rattle.mask.specs.Mask.{bit}
@@ -14,8 +14,9 @@ use Rattle.mask.proofs.Logic.{same, holds, true-holds, clash, by-lt, and-in, an
 use Rattle.mask.proofs.Bits.{bit-high}
 use Rattle.mask.proofs.Range.{each-in, each-out}
 use Rattle.game.specs.Problem.{Problem}
-use Rattle.game.specs.Lists.{domains}
+use Rattle.game.specs.Lists.{domains, spread}
 use Rattle.game.specs.Position.{legal}
+use Rattle.theory.proofs.SpreadLaws.{getD-spread}
 use Rattle.position.specs.declared.Position.{Position}
 use Rattle.position.specs.Position.{shown, playsOf, placeFits, fitsAt, fitsIn}
 
@@ -23,17 +24,6 @@ use Rattle.position.specs.Position.{shown, playsOf, placeFits, fitsAt, f
 zeros : (l : List ℕ) → ((i : ℕ) → i < length l → getD l i 0 ≡ 0) → l ≡ replicate (length l) 0
 zeros [] h = refl
 zeros (x ∷ l) h = ap₂ (λ (y : ℕ) (t : List ℕ). y ∷ t) (h 0 (omega arith)) (zeros l (λ i k. h (suc i) (omega arith)))
-
-getD-zeros : (m i : ℕ) → _≡_ {A = ℕ} (getD (replicate m 0) i 0) 0
-getD-zeros zero i = refl
-getD-zeros (suc m) zero = refl
-getD-zeros (suc m) (suc i) = getD-zeros m i
-
--- Places behind the plays shown, and places of the plays.
-getD-behind : (l : List ℕ) (m i : ℕ) → length l ≤ i → getD (l ++ replicate m 0) i 0 ≡ 0
-getD-behind l m i h =
-    let e : i ≡ length l + (i - length l) = omega arith in
-    ap (λ (k : ℕ). getD (l ++ replicate m 0) k 0) e ∙ getD-append-add l (replicate m 0) (i - length l) 0 ∙ getD-zeros m (i - length l)
 
 pub getD-plays : (p : Position) (j : ℕ) → j < p .plays → getD (playsOf p) j 0 ≡ getD (p .values) j 0
 unfolding playsOf
@@ -88,7 +78,7 @@ module _ (p : Position) (n : ℕ) (masks : List ℕ) (t : T (fitsIn p n masks)) 
 
     -- A position that fits shows its plays.
     pub fits-shown : shown (playsOf p) ≡ p
-    unfolding shown playsOf
+    unfolding shown playsOf spread
     fits-shown =
         let k = fits-plays in
         let d : length (drop (p .plays) (p .values)) ≡ 32 - p .plays = length-drop (p .plays) (p .values) ∙ ap (λ (m : ℕ). m - p .plays) long in
@@ -128,12 +118,12 @@ legal-fits P n masks l e f t =
     played i h =
         let a : getD (take n masks) i 0 ≡ getD masks i 0 = getD-take n masks i 0 (omega (arith, few)) in
         let b = each-out (length l) (λ j. true) (among (P .domain) l) (parts .1) i h tt in
-        rw (place-played (length l) i _ _ h, List·getD-append l (replicate (32 - length l) 0) 0 i h) (rw (f, a) at b)
+        rw (place-played (length l) i _ _ h, getD-spread l i) (rw (f, a) at b)
 
     unplayed : (i : ℕ) → length l ≤ i → T (fitsAt (shown l) masks i)
-    unplayed i h = rw (place-unplayed (length l) i _ _ h, getD-behind l (32 - length l) i h) tt
+    unplayed i h = rw (place-unplayed (length l) i _ _ h, getD-spread l i, List·getD-eq-default l 0 {n = i} h) tt
 
--- Domains that agree on the n variables fit the same positions.
+-- The test of a place over other domains: the same mask there, or no play.
 place-same : (p : Position) (D E : List ℕ) (i : ℕ) → getD D i 0 ≡ getD E i 0 → T (fitsAt p D i) → T (fitsAt p E i)
 unfolding fitsAt
 place-same p D E i e u = rw e at u
@@ -142,13 +132,16 @@ place-zero : (p : Position) (D E : List ℕ) (i : ℕ) → p .plays ≤ i → T 
 unfolding fitsAt
 place-zero p D E i e u = rw (place-unplayed (p .plays) i (getD E i 0) (getD (p .values) i 0) e) (rw (place-unplayed (p .plays) i (getD D i 0) (getD (p .values) i 0) e) at u)
 
-fits-go : (p : Position) (n : ℕ) (D E : List ℕ) → ((i : ℕ) → i < n → getD D i 0 ≡ getD E i 0) → T (fitsIn p n D) → T (fitsIn p n E)
+-- A position that fits n variables fits more of them, over domains that agree on the n: it has no play from n on.
+pub fits-more : (p : Position) (n all : ℕ) (D E : List ℕ) → T (fitsIn p n D) → n ≤ all → ((i : ℕ) → i < n → getD D i 0 ≡ getD E i 0) → T (fitsIn p all E)
 unfolding fitsIn
-fits-go p n D E h t =
+fits-more p n all D E t m h =
     let few = fits-plays p n D t in
-    and-in (leb (p .plays) n) (each 32 (λ i. true) (fitsAt p E)) (true-holds (le-leb (p .plays) n few))
+    and-in (leb (p .plays) all) (each 32 (λ i. true) (fitsAt p E)) (true-holds (le-leb (p .plays) all (omega arith)))
     (each-in 32 (λ i. true) (fitsAt p E)
     (λ i l _. by-lt i n (λ k. place-same p D E i (h i k) (fits-at p n D t i l)) (λ k. place-zero p D E i (omega arith) (fits-at p n D t i l))))
 
+-- Domains that agree on the n variables fit the same positions.
 pub fits-same : (p : Position) (n : ℕ) (D E : List ℕ) → ((i : ℕ) → i < n → getD D i 0 ≡ getD E i 0) → fitsIn p n D ≡ fitsIn p n E
-fits-same p n D E h = same (fitsIn p n D) (fitsIn p n E) (fits-go p n D E h) (fits-go p n E D (λ i l. sym (h i l)))
+fits-same p n D E h = same (fitsIn p n D) (fitsIn p n E) (λ t. fits-more p n n D E t (omega arith) h)
+    (λ t. fits-more p n n E D t (omega arith) (λ i l. sym (h i l)))

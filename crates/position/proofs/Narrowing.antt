@@ -1,41 +1,21 @@
 -- The position's list, word by word, and the words that hold it.
-use mathlib.Core.Path.{_≡_, refl, sym, ap, ap₂, _∙_}
-use mathlib.Core.List.{List, [], _∷_, _++_}
+use mathlib.Core.Path.{_≡_, refl, sym, ap, _∙_}
+use mathlib.Core.List.{List, [], _∷_}
 use Prim.Native.Nat.{ℕ, zero, suc, _+_, _-_, _^_, _<_, _≤_}
 use native.Mathlib.Omega.{arith}
 use native.Mathlib.Numerals.{add-one}
 use lib.Dec.{T}
-use lib.ListN.{getD, length, take, drop, set, length-take, take-append-drop}
+use lib.ListN.{getD, length, take, drop, set, length-take}
 use lib.Seq.{length-take-le, getD-take, getD-drop, take-all, take-suc, take-suc-set}
 use borrow.Author.Tests.{lt-ltb, le-ltb}
 use Rattle.mask.proofs.Logic.{by-lt}
 use Rattle.game.specs.Problem.{Problem}
 use Rattle.game.specs.Lists.{listOf}
 use Rattle.game.specs.Position.{narrowed, position}
+use Rattle.theory.proofs.Lists.{length-narrowed, narrowed-played, narrowed-unplayed}
 use Rattle.position.specs.declared.Position.{Position}
 use Rattle.position.specs.Position.{playsOf, fitsIn, placeMask, Written}
 use Rattle.position.proofs.Fitting.{fits-plays, getD-plays, length-plays}
-
--- A list of masks with plays narrowed: its length, a mask of a play, another mask.
-length-narrowed : (l p : List ℕ) → length (narrowed l p) ≡ length l
-unfolding narrowed
-length-narrowed l [] = refl
-length-narrowed [] (a ∷ p) = refl
-length-narrowed (m ∷ l) (a ∷ p) = ap suc (length-narrowed l p)
-
-narrowed-played : (l p : List ℕ) (i : ℕ) → length p ≤ length l → i < length p → getD (narrowed l p) i 0 ≡ 2 ^ getD p i 0
-unfolding narrowed
-narrowed-played l [] i h k = absurd (omega arith)
-narrowed-played [] (a ∷ p) i h k = absurd (omega arith)
-narrowed-played (m ∷ l) (a ∷ p) zero h k = refl
-narrowed-played (m ∷ l) (a ∷ p) (suc i) h k = narrowed-played l p i (omega arith) (omega arith)
-
-narrowed-unplayed : (l p : List ℕ) (i : ℕ) → length p ≤ i → getD (narrowed l p) i 0 ≡ getD l i 0
-unfolding narrowed
-narrowed-unplayed l [] i h = refl
-narrowed-unplayed [] (a ∷ p) i h = refl
-narrowed-unplayed (m ∷ l) (a ∷ p) zero h = absurd (omega arith)
-narrowed-unplayed (m ∷ l) (a ∷ p) (suc i) h = narrowed-unplayed l p i (omega arith)
 
 -- The first n words as a list.
 listOf-take : (n : ℕ) (w : List ℕ) → n ≤ length w → listOf n (λ i. getD w i 0) ≡ take n w
@@ -84,11 +64,8 @@ module _ (p : Position) (n : ℕ) (masks : List ℕ) where
     others = b;
   }
 
--- What the search takes from it: the words whole, the list of the first n, and every other word.
+-- What the search takes from it: the list of the first n words, and every other word.
 module _ (p : Position) (n : ℕ) (masks w v : List ℕ) (r : Written p n masks w v) where
-  pub written-words : (P : Problem) → P .n ≡ n → P .domain ≡ take n masks → v ≡ position P (playsOf p) ++ drop n w
-  written-words P e f = sym (take-append-drop n v) ∙ ap₂ (λ (a b : List ℕ). a ++ b) (r .list P e f) (r .others)
-
   pub written-list : (P : Problem) → P .n ≡ n → P .domain ≡ take n masks → n ≤ length v → listOf n (λ i. getD v i 0) ≡ position P (playsOf p)
   written-list P e f h = listOf-take n v h ∙ r .list P e f
 

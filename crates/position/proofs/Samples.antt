@@ -6,6 +6,7 @@ use Prim.Native.Nat.{ℕ}
 use lib.ListN.{replicate}
 use Rattle.mask.specs.Range.{each}
 use Rattle.mask.specs.Mask.{bit}
+use Rattle.game.specs.Lists.{spread}
 use Rattle.position.specs.Position.{shown, pushed, popped, placeFits, fitsAt, fitsIn}
 
 abbrev fitting : ℕ → List ℕ → Bool
@@ -24,5 +25,5 @@ misfit = (refl, refl, refl, refl, refl)
 
 -- A play, another, and two taken back.
 turns : (pushed (pushed (shown []) 1) 2 ≡ shown (1 ∷ 2 ∷ [])) × (popped (popped (shown (1 ∷ 2 ∷ []))) ≡ shown [])
-unfolding shown pushed popped
+unfolding spread shown pushed popped
 turns = (refl, refl)

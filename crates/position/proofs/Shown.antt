@@ -1,29 +1,24 @@
 -- A play added to the plays that a position shows, and the last of them taken back.
-use mathlib.Core.Path.{_≡_, refl, sym, ap, ap₂, _∙_}
+use mathlib.Core.Path.{_≡_, refl, sym, ap, ap₂}
 use mathlib.Core.List.{List, [], _∷_, _++_}
-use Prim.Native.Nat.{ℕ, suc, _+_, _-_, _<_, _≤_}
+use Prim.Native.Nat.{ℕ, suc, _-_, _<_, _≤_}
 use native.Mathlib.Omega.{arith}
-use lib.ListN.{length, replicate, set, length-append, length-replicate}
-use lib.Seq.{take-append-seam, append-snoc, set-append-seam}
+use lib.ListN.{length, replicate, set, length-append}
+use lib.Seq.{take-append-seam}
+use Rattle.game.specs.Lists.{spread}
 use Rattle.game.specs.Calls.{withoutLast}
+use Rattle.theory.proofs.SpreadLaws.{spread-next}
 use Rattle.position.specs.Position.{shown, playsOf, pushed, popped}
 
 -- The plays of a position that shows l are l.
 pub plays-shown : (l : List ℕ) → playsOf (shown l) ≡ l
-unfolding playsOf shown
+unfolding playsOf shown spread
 plays-shown l = take-append-seam l (replicate (32 - length l) 0)
-
-pub length-shown : (l : List ℕ) → length l ≤ 32 → length (shown l .values) ≡ 32
-unfolding shown
-length-shown l h = length-append l (replicate (32 - length l) 0) ∙ simp length-replicate (omega arith)
 
 -- A play is the last of the plays shown next.
 pub pushed-shown : (l : List ℕ) (a : ℕ) → length l < 32 → pushed (shown l) a ≡ shown (l ++ (a ∷ []))
 unfolding pushed shown
-pushed-shown l a h =
-    let e : 32 - length l ≡ suc (32 - (length l + 1)) = omega arith in
-    ap₂ (λ (k : ℕ) (v : List ℕ). record { plays = k; values = v }) (sym (length-append l (a ∷ [])))
-    (rw (e, length-append l (a ∷ [])) (set-append-seam l 0 _ a ∙ sym (append-snoc l a _)))
+pushed-shown l a h = ap₂ (λ (k : ℕ) (v : List ℕ). record { plays = k; values = v }) (sym (length-append l (a ∷ []))) (spread-next l a h)
 
 pub length-withoutLast : (x : ℕ) (l : List ℕ) → length (withoutLast (x ∷ l)) ≡ length l
 unfolding withoutLast
@@ -36,7 +31,7 @@ set-last x [] r = refl
 set-last x (y ∷ l) r = ap (λ (v : List ℕ). x ∷ v) (set-last y l r)
 
 popped-cons : (x : ℕ) (l : List ℕ) → length l < 32 → popped (shown (x ∷ l)) ≡ shown (withoutLast (x ∷ l))
-unfolding popped shown
+unfolding popped shown spread
 popped-cons x l h =
     let e : 32 - length l ≡ suc (32 - suc (length l)) = omega arith in
     let o : suc (length l) - 1 ≡ length l = omega arith in
@@ -46,15 +41,3 @@ popped-cons x l h =
 pub popped-shown : (l : List ℕ) → 1 ≤ length l → length l ≤ 32 → popped (shown l) ≡ shown (withoutLast l)
 popped-shown [] h k = absurd (omega arith)
 popped-shown (x ∷ l) h k = popped-cons x l (omega arith)
-
-pub withoutLast-snoc : (l : List ℕ) (a : ℕ) → withoutLast (l ++ (a ∷ [])) ≡ l
-unfolding withoutLast
-withoutLast-snoc [] a = refl
-withoutLast-snoc (x ∷ []) a = refl
-withoutLast-snoc (x ∷ (y ∷ l)) a = ap (λ (v : List ℕ). x ∷ v) (withoutLast-snoc (y ∷ l) a)
-
--- A take-back undoes a play.
-pub popped-pushed : (l : List ℕ) (a : ℕ) → length l < 32 → popped (shown (l ++ (a ∷ []))) ≡ shown l
-popped-pushed l a h =
-    let e = length-append l (a ∷ []) in
-    popped-shown (l ++ (a ∷ [])) (omega arith) (omega arith) ∙ ap shown (withoutLast-snoc l a)

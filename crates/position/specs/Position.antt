@@ -2,19 +2,20 @@
 -- place, a take-back clears the last."
 use mathlib.Core.Path.{_≡_}
 use mathlib.Core.Bool.{Bool, true, cond, _&&_}
-use mathlib.Core.List.{List, _++_}
+use mathlib.Core.List.{List}
 use Prim.Native.Nat.{ℕ, _+_, _-_, _^_}
 use lib.Dec.{eqb, ltb, leb}
-use lib.ListN.{getD, length, take, drop, replicate, set}
+use lib.ListN.{getD, length, take, drop, set}
 use Rattle.mask.specs.Range.{each}
 use Rattle.mask.specs.Mask.{bit}
 use Rattle.game.specs.Problem.{Problem}
+use Rattle.game.specs.Lists.{spread}
 use Rattle.game.specs.Position.{position}
 use Rattle.position.specs.declared.Position.{Position}
 
 -- The position that shows these plays: they, then zeros.
 unfoldable pub shown : List ℕ → Position
-shown l = record { plays = length l; values = l ++ replicate (32 - length l) 0 }
+shown l = record { plays = length l; values = spread l }
 
 -- The plays that stand in a position.
 unfoldable pub playsOf : Position → List ℕ

@@ -1,5 +1,5 @@
-// Positions by value: the number of plays and 32 places. `fresh` is open to callers; every other function is for the
-// search and the session.
+// Positions by value: the number of plays and 32 places. It rests on `mask`, `refusal` and the laws of `theory`. `fresh` is open to
+// callers; every other function is for the search and the session.
 ghost use mathlib.Core.Path.{_≡_};
 ghost use mathlib.Core.List.{[]};
 ghost use Prim.Native.Nat.{_≤_, _<_};
@@ -56,11 +56,11 @@ pub fn popped(p: Position) -> Position
 }
 
 // Whether the mask holds the value, whatever its size.
-fn holds(m: u16, value: u8) -> bool
+pub fn holds(m: u16, value: usize) -> bool
     ensures { λ r. ⌜ r ≡ bit m value ⌝ }
 {
     if value < 16 {
-        contains(m, value as usize)
+        contains(m, value)
     } else {
         false
     }
@@ -70,7 +70,7 @@ fn place_fits(plays: usize, i: usize, m: u16, value: u8) -> bool
     ensures { λ r. ⌜ r ≡ placeFits plays i m value ⌝ }
 {
     if i < plays {
-        holds(m, value)
+        holds(m, value as usize)
     } else {
         value == 0
     }

@@ -8,7 +8,7 @@ use Rattle.refusal.specs.declared.Verdict.the-variants.{Fine, Refused}
 use Rattle.refusal.specs.Chain.{_then_, need, only}
 
 -- A refusal is not fine.
-pub not-fine : {X : Type 0} (e p : ℕ) → Refused e p ≡ Fine → X
+not-fine : {X : Type 0} (e p : ℕ) → Refused e p ≡ Fine → X
 not-fine e p q = let z : _≡_ {A = ℕ} 0 1 = cc in absurd (omega arith)
 
 -- Both parts of a fine chain are fine, and a chain of fine parts is.

@@ -1,2 +1,4 @@
 -- Laws of chained tests.
 pub mod Chain
+-- What the tests make of a call.
+pub mod RepliedLaws

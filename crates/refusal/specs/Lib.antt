@@ -4,3 +4,5 @@
 pub mod Chain
 -- Document 01: "When an answer is an enum, a definition gives this paper's number and values for each of its cases."
 pub mod Told
+-- Document 01: "A refused call leaves position, list, room and buffer with their old contents".
+pub mod Replied

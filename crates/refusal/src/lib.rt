@@ -1,6 +1,6 @@
-// How a call refuses: a chain of tests, of which the first that fails decides. A failed test gives document 01's number
-// and a place in the file; where a call refuses by number alone, the place is 0 and goes no further.
-// Every function here is for the other crates of this repository.
+// How a call refuses: a chain of tests, of which the first that fails decides. A failed test gives document 01's number and a place
+// in the file; where a call refuses by number alone, the place is 0 and goes no further. It rests on no other crate. Every function
+// here is for the other crates of this repository.
 ghost use mathlib.Core.Path.{_≡_};
 ghost use mathlib.Core.Bool.{_&&_, _||_};
 ghost use Rattle.refusal.specs.Chain.{_then_, need};

@@ -3,8 +3,8 @@ use mathlib.Core.Path.{_≡_, sym}
 use mathlib.Core.List.{List}
 use Prim.Native.Nat.{ℕ}
 use lib.ListN.{take}
-use Rattle.problem_file.proofs.Longest.{reply-tail}
-use Rattle.report.specs.Text.{refusedText}
+use Rattle.file_reader.proofs.Longest.{reply-tail}
+use Rattle.report_text.specs.Text.{refusedText}
 use Rattle.reporting.specs.Reporting.{reportOf}
 use Rattle.reporting.proofs.ReportLaws.{refused-text}
 

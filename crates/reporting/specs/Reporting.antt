@@ -8,17 +8,17 @@ use Rattle.refusal.specs.declared.Verdict.the-variants.{Fine}
 use Rattle.rule_set.specs.RuleSet.{greatestSet}
 use Rattle.file_layout.specs.Layout.{mOf, rulesOf}
 use Rattle.file_records.specs.Records.{verdictOf}
-use Rattle.problem_file.specs.Used.{rulesUsed}
+use Rattle.file_reader.specs.Used.{rulesUsed}
 use Rattle.game.specs.Problem.{Problem}
 use Rattle.game.specs.Winning.{verdict, winningValues}
-use Rattle.tables.specs.FileProblem.{problemOf}
-use Rattle.rules.specs.Alone.{readFirst}
+use Rattle.file_decoder.specs.FileProblem.{problemOf}
+use Rattle.file_decoder.specs.Read.{readFirst}
 use Rattle.judging.specs.declared.Judged.{Judged}
 use Rattle.judging.specs.declared.Judged.the-variants.{Won, Lost, Refused, RefusedAt}
 use Rattle.marking.specs.declared.Marked.{Marked}
 use Rattle.marking.specs.declared.Marked.the-variants.{Values}
 use Rattle.marking.specs.declared.Marked.the-variants.{Refused as NoValues, RefusedAt as NoValuesAt}
-use Rattle.report.specs.Text.{replyText, refusedText}
+use Rattle.report_text.specs.Text.{replyText, refusedText}
 use Rattle.reporting.specs.declared.First.{First}
 
 -- The text for a problem with m constraints, before any play.
@@ -30,7 +30,7 @@ unfoldable pub reportOf : List ℕ → List ℕ
 reportOf f = readFirst f refusedText (λ P. problemText P (mOf f) (rulesUsed (rulesOf f)))
 
 -- The buffer l becomes l': the text, which ends at r, and behind it what was there.
-pub record Holds (text l : List ℕ) (r : ℕ) (l' : List ℕ) : Type 0 where
+pub record Prints (text l : List ℕ) (r : ℕ) (l' : List ℕ) : Type 0 where
   pub ends : r ≡ length text
   pub bytes : l' ≡ text ++ drop (length text) l
 
@@ -60,4 +60,4 @@ MarksFirst f set r =
 abbrev pub ReportsAccepted : List ℕ → ℕ → ℕ → ℕ → Bool → List ℕ → ℕ → List ℕ → Type 0
 ReportsAccepted f n m set universal l r l' =
     (fine : verdictOf f ≡ Fine) → set ≤ greatestSet
-    → Holds (replyText n m set (verdict (problemOf f fine) []) 0 universal (getD (problemOf f fine .domain) 0 0) (winningValues (problemOf f fine) [])) l r l'
+    → Prints (replyText n m set (verdict (problemOf f fine) []) 0 universal (getD (problemOf f fine .domain) 0 0) (winningValues (problemOf f fine) [])) l r l'

@@ -1,5 +1,5 @@
-// What the judging program prints of the bytes of a file: document 01's lines, or the one line of a refusal. The room of the
-// searches is held here. `report_file` is for the program judge.
+// What the judging program prints of the bytes of a file: document 01's lines, or the one line of a refusal. The room of the searches is
+// held here. It rests on `file_reader`, `judging`, `marking` and `report_text`. `report_file` is for the program `judge`.
 ghost use mathlib.Core.Path.{_≡_};
 ghost use mathlib.Core.List.{_++_};
 ghost use Prim.Native.Nat.{_≤_};
@@ -8,14 +8,14 @@ ghost use Rattle.reporting.specs.Reporting.{reportOf, ReportsAccepted};
 
 mod opening;
 
+use file_reader::Header;
+use file_reader::read;
+use file_reader::rules_used;
 use mask::contains_32;
 use opening::first_marks;
 use opening::is_won;
-use problem_file::Header;
-use problem_file::read;
-use problem_file::rules_used;
-use report::render_refusal;
-use report::render_reply;
+use report_text::render_refusal;
+use report_text::render_reply;
 
 // The winning values of the first variable, and its domain.
 pub struct First {
@@ -50,13 +50,14 @@ pub fn report_file(f: &[u8], out: &mut [u8; 1024]) -> usize
     let h = r.header;
     match h {
         Header::Refused(number, place) => render_refusal(number as usize, place, out),
-        Header::Accepted(n, m, rules, u) => {
+        Header::Accepted(head) => {
+            let rules = head.rules;
             report_accepted(
                 f,
-                n as usize,
-                m as usize,
+                head.n as usize,
+                head.m as usize,
                 rules_used(rules) as usize,
-                contains_32(u, 0),
+                contains_32(head.universal, 0),
                 out,
             )
         }

@@ -7,6 +7,7 @@ use judging::judge;
 use marking::Marked;
 use marking::mark;
 use position::fresh;
+use search_run::ROOM;
 
 fn won_by(j: Judged) -> bool
     ensures { λ r. ⌜ r ≡ wonBy j ⌝ }
@@ -42,7 +43,7 @@ fn marks_by(k: Marked) -> First
 pub fn is_won(f: &[u8], set: usize) -> bool
     ensures { λ r. ⌜ JudgesFirst (now (f .entry)) set r ⌝ }
 {
-    let mut room = [0u16; 4224];
+    let mut room = [0u16; ROOM];
     won_by(judge(f, fresh(), set, &mut room))
 }
 
@@ -50,6 +51,6 @@ pub fn is_won(f: &[u8], set: usize) -> bool
 pub fn first_marks(f: &[u8], set: usize) -> First
     ensures { λ r. ⌜ MarksFirst (now (f .entry)) set r ⌝ }
 {
-    let mut room = [0u16; 4224];
+    let mut room = [0u16; ROOM];
     marks_by(mark(f, fresh(), set, &mut room))
 }

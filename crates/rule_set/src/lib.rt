@@ -1,5 +1,5 @@
-// Rule sets: which of the seven search rules a search uses, as the sum of their numbers (document 01, "The seven rules").
-// `RuleSet` with its constants, its constructor and its methods is open to callers.
+// Rule sets: which of the seven search rules a search uses, as the sum of their numbers (document 01, "The seven rules"). It rests on
+// `mask` and `refusal`. `RuleSet` with its constants, `new`, `number` and `uses` is open to callers.
 ghost use mathlib.Core.Path.{_≡_};
 ghost use mathlib.Core.List.{[], _∷_};
 ghost use Rattle.rule_set.specs.RuleSet.{plainSet, usualSet, fullSet, isRuleSet, uses, ruleSetOf, told};
@@ -61,7 +61,7 @@ impl RuleSet {
         contains(self.bits as u16, rule - 1)
     }
 
-    // The numbers of the named sets, so that the definitions and the constants cannot part. For the crates above.
+    // The numbers of the named sets. No crate calls it: its contract keeps definitions and constants from parting.
     pub fn named() -> [u8; 3]
         ensures { λ r. ⌜ r ≡ plainSet ∷ usualSet ∷ fullSet ∷ [] ⌝ }
     {

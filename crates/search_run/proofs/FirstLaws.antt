@@ -3,61 +3,34 @@ use mathlib.Core.Path.{_≡_, refl, sym, ap, ap₂, subst, _∙_}
 use mathlib.Core.Bool.{cond}
 use mathlib.Core.List.{List}
 use mathlib.Core.Logic.{_⊎_, inl, inr, ⊎-elim}
-use Prim.Native.Nat.{ℕ, zero, suc, _+_, _*_, _/_, _%_, _^_, _≤_, _<_}
+use Prim.Native.Nat.{ℕ, zero, suc, _+_, _*_, _^_, _≤_, _<_}
 use native.Mathlib.Omega.{arith}
 use lib.Dec.{T, ltb}
-use lib.ListN.{getD, length, set, take, replicate, length-set, length-replicate, getD-replicate, List·getD-eq-default}
-use lib.Seq.{ext-getD, getD-set-same, getD-set-other}
+use lib.ListN.{getD, length, set, take, replicate, length-replicate, getD-replicate, List·getD-eq-default}
+use lib.Seq.{ext-getD}
 use borrow.Author.Tests.{lt-ltb, le-ltb}
 use native.Mathlib.Numerals.{add-one}
 use Rattle.mask.proofs.Logic.{by-eq, by-lt}
 use Rattle.game.specs.Problem.{Problem}
-use Rattle.game.specs.Lists.{listOf}
+use Rattle.game.specs.Lists.{listOf, spread}
 use Rattle.game.specs.Position.{legal}
 use Rattle.game.specs.Turn.{firstList}
 use Rattle.game.specs.Reasons.{firstReasons}
 use Rattle.game.specs.Turns.{TurnOf, first}
-use Rattle.theory.proofs.Lists.{length-listOf, getD-listOf}
-use Rattle.arrays.specs.Words.{listIn, whyIn, leafIn, reasonIn, putReason}
-use Rattle.arrays.proofs.WordLaws.{length-putReason}
-use Rattle.forward_rule.proofs.StepLaws.{listOf-same}
+use Rattle.theory.proofs.Lists.{length-listOf, getD-listOf, listOf-same}
+use Rattle.solver_arrays.specs.declared.Variables.{Variables}
+use Rattle.solver_arrays.specs.Arrays.{Poses}
+use Rattle.solver_arrays.specs.Words.{listIn, whyIn, leafIn, reasonIn, putReason}
+use Rattle.solver_arrays.proofs.WordLaws.{length-putReason, put-other, put-same, put-apart}
 use Rattle.position.specs.declared.Position.{Position}
 use Rattle.position.specs.Position.{playsOf, fitsIn, Written}
 use Rattle.position.proofs.Fitting.{length-plays, fits-legal}
 use Rattle.position.proofs.Narrowing.{written-list, written-other}
-use Rattle.turn_words.specs.TurnRoom.{withRun}
-use Rattle.turn_words.proofs.RoomLaws.{length-run, run-at, run-other, run-next}
-use Rattle.turn_words.proofs.ReasonBounds.{Below, below-out, first-below}
-use Rattle.search.specs.TurnReply.{TurnIn}
-use Rattle.search_run.specs.FirstTurn.{ZeroBelow, filled, wordsFrom, ownReasons, FirstWords}
-use Rattle.search_run.specs.Run.{Poses}
-
--- Reasons put --------------------------------------------------------------------------------------------------------------------
-put-other : (w : List ℕ) (i r k : ℕ) → (k < 32 + 2 * i) ⊎ (34 + 2 * i ≤ k) → getD (putReason w i r) k 0 ≡ getD w k 0
-unfolding putReason
-put-other w i r k o =
-    let x = set w (32 + 2 * i) (r % 65536) in
-    let f : ¬ (k ≡ 33 + 2 * i) = ⊎-elim (λ u. omega arith) (λ u. omega arith) o in
-    let g : ¬ (k ≡ 32 + 2 * i) = ⊎-elim (λ u. omega arith) (λ u. omega arith) o in
-    getD-set-other x (33 + 2 * i) k (r / 65536) 0 f ∙ getD-set-other w (32 + 2 * i) k (r % 65536) 0 g
-
-put-same : (w : List ℕ) (i r : ℕ) → 96 ≤ length w → i < 32 → reasonIn (putReason w i r) i ≡ r
-unfolding putReason reasonIn
-put-same w i r b h =
-    let x = set w (32 + 2 * i) (r % 65536) in
-    let e = length-set w (32 + 2 * i) (r % 65536) in
-    rw (
-      getD-set-other x (33 + 2 * i) (32 + 2 * i) (r / 65536) 0 (omega arith),
-      getD-set-same w (32 + 2 * i) (r % 65536) 0 (omega arith),
-      getD-set-same x (33 + 2 * i) (r / 65536) 0 (omega arith),
-    ) (omega arith)
-
-put-apart : (w : List ℕ) (i r j : ℕ) → ¬ (j ≡ i) → reasonIn (putReason w i r) j ≡ reasonIn w j
-unfolding reasonIn
-put-apart w i r j z =
-    let o : (k : ℕ) → (k ≡ 32 + 2 * j) ⊎ (k ≡ 33 + 2 * j) → (k < 32 + 2 * i) ⊎ (34 + 2 * i ≤ k) =
-    λ k e. by-lt j i (λ u. inl (⊎-elim (λ v. omega arith) (λ v. omega arith) e)) (λ u. inr (⊎-elim (λ v. omega arith) (λ v. omega arith) e)) in
-    rw (put-other w i r (32 + 2 * j) (o (32 + 2 * j) (inl refl)), put-other w i r (33 + 2 * j) (o (33 + 2 * j) (inr refl)))
+use Rattle.search_words.specs.TurnRoom.{withRun}
+use Rattle.search_words.proofs.RoomLaws.{length-run, run-at, run-other, run-next}
+use Rattle.search_words.proofs.ReasonBounds.{Below, below-out, first-below}
+use Rattle.search_turns.specs.TurnReply.{TurnIn}
+use Rattle.search_run.specs.FirstTurn.{ZeroBelow, wordsFrom, ownReasons, FirstWords}
 
 pub length-own : (d : ℕ) (w : List ℕ) → length (ownReasons d w) ≡ length w
 unfolding ownReasons
@@ -124,50 +97,29 @@ module _ (p : Position) (n : ℕ) (masks w v x : List ℕ) (m : n ≤ 32) (b : 9
   }
 
 -- They hold the first turn of a search from the position.
-module _ (P : Problem) (n universal : ℕ) (near index rows masks : List ℕ) (o : Poses P n universal near index rows masks) (S : ℕ) (p : Position)
-    (m : n ≤ 32) (long : length (p .values) ≡ 32) (fits : T (fitsIn p n masks)) (w x : List ℕ) (f : FirstWords p n masks w x) where
+module _ (P : Problem) (v : Variables) (near index rows : List ℕ) (o : Poses P v near index rows) (S : ℕ) (p : Position)
+    (m : v .n ≤ 32) (long : length (p .values) ≡ 32) (fits : T (fitsIn p (v .n) (v .domains))) (w x : List ℕ) (f : FirstWords p (v .n) (v .domains) w x) where
   pub plays-count : length (playsOf p) ≡ p .plays
-  plays-count = length-plays p n masks fits m long
+  plays-count = length-plays p (v .n) (v .domains) fits m long
 
   pub first-legal : T (legal P (playsOf p))
-  first-legal = fits-legal p n masks fits m long P (o .states .size) (o .domain)
+  first-legal = fits-legal p (v .n) (v .domains) fits m long P (o .states .size) (o .domain)
 
-  pub first-list : listIn n x ≡ firstList P (playsOf p)
+  pub first-list : listIn (v .n) x ≡ firstList P (playsOf p)
   first-list = f .list P (o .states .size) (o .domain)
 
-  pub first-why : whyIn n x ≡ firstReasons (P .n) (length (playsOf p))
+  pub first-why : whyIn (v .n) x ≡ firstReasons (P .n) (length (playsOf p))
   first-why = f .why ∙ ap₂ firstReasons (sym (o .states .size)) (sym plays-count)
 
-  pub first-in : TurnIn P n S 0 (p .plays) (playsOf p) x
+  pub first-in : TurnIn P (v .n) S 0 (p .plays) (playsOf p) x
   first-in = record {
     plays = playsOf p;
     legal-start = first-legal;
-    turn = subst (λ (l : List ℕ). TurnOf P S (playsOf p) 0 (playsOf p) l (whyIn n x)) (sym first-list)
+    turn = subst (λ (l : List ℕ). TurnOf P S (playsOf p) 0 (playsOf p) l (whyIn (v .n) x)) (sym first-list)
         (subst (λ (R : List ℕ). TurnOf P S (playsOf p) 0 (playsOf p) (firstList P (playsOf p)) R) (sym first-why) first);
     count = plays-count;
-    reasons = below-out n x (subst (Below n) (sym (f .why)) (first-below n (p .plays)));
+    reasons = below-out (v .n) x (subst (Below (v .n)) (sym (f .why)) (first-below (v .n) (p .plays)));
   }
-
--- Runs of words -------------------------------------------------------------------------------------------------------------------------
--- One word more.
-pub run-more : (k : ℕ) (f : ℕ → ℕ) (w x : List ℕ) (v : ℕ) → k < length w → x ≡ withRun 0 k f w → v ≡ f k → set x k v ≡ withRun 0 (k + 1) f w
-run-more k f w x v h e q = ap (λ y. set y k v) e ∙ run-next 0 k f w v (omega arith) h q
-
--- All words, in 32 places.
-pub run-filled : (t : ℕ) (f : ℕ → ℕ) (l : List ℕ) → t ≤ 32 → length l ≡ t → ((j : ℕ) → j < t → getD l j 0 ≡ f j) → withRun 0 t f (replicate 32 0) ≡ filled l
-unfolding filled
-run-filled t f l m e h =
-    let a = length-replicate {A = ℕ} 32 0 in
-    let b = length-run 0 t f (replicate 32 0) in
-    ext-getD 0 (withRun 0 t f (replicate 32 0)) (listOf 32 (λ j. getD l j 0)) (b ∙ a ∙ sym (length-listOf 32 (λ j. getD l j 0))) λ j k. by-lt j t
-    (λ u. run-at 0 t f (replicate 32 0) j (omega arith) u (omega arith) ∙ sym (h j u) ∙ sym (getD-listOf 32 (λ j. getD l j 0) j (omega arith)))
-    (λ u. run-other 0 t f (replicate 32 0) j (inr u) ∙ getD-replicate 32 j 0 0 (omega arith) ∙ sym (List·getD-eq-default l 0 (omega arith)) ∙ sym (getD-listOf 32 (λ j. getD l j 0) j (omega arith)))
-
-pub run-places : (s t : ℕ) (w x : List ℕ) (k : ℕ) → t ≤ 32 → k ≡ t → x ≡ withRun 0 k (λ j. getD w (s + j) 0) (replicate 32 0) → x ≡ filled (wordsFrom s t w)
-unfolding wordsFrom
-run-places s t w x k m q e =
-    e ∙ ap (λ k. withRun 0 k (λ j. getD w (s + j) 0) (replicate 32 0)) q
-    ∙ run-filled t (λ j. getD w (s + j) 0) (listOf t (λ j. getD w (s + j) 0)) m (length-listOf t _) (λ j h. getD-listOf t _ j h)
 
 pub words-list : (n : ℕ) (w : List ℕ) → wordsFrom 0 n w ≡ listIn n w
 unfolding wordsFrom listIn

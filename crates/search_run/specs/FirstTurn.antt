@@ -4,20 +4,16 @@ use mathlib.Core.List.{List}
 use Prim.Native.Nat.{ℕ, zero, suc, _+_, _^_, _≤_, _<_}
 use lib.ListN.{getD, length, take}
 use Rattle.game.specs.Problem.{Problem}
-use Rattle.game.specs.Lists.{listOf}
+use Rattle.game.specs.Lists.{listOf, spread}
 use Rattle.game.specs.Turn.{firstList}
 use Rattle.game.specs.Reasons.{firstReasons}
-use Rattle.arrays.specs.Words.{listIn, whyIn, putReason}
+use Rattle.solver_arrays.specs.Words.{listIn, whyIn, putReason}
 use Rattle.position.specs.declared.Position.{Position}
 use Rattle.position.specs.Position.{playsOf}
 
 -- The first t words are zero.
 abbrev pub ZeroBelow : ℕ → List ℕ → Type 0
 ZeroBelow t w = (k : ℕ) → k < t → getD w k 0 ≡ 0
-
--- The list in 32 places, with zeros behind it.
-unfoldable pub filled : List ℕ → List ℕ
-filled l = listOf 32 (λ j. getD l j 0)
 
 -- The t words from s on.
 unfoldable pub wordsFrom : ℕ → ℕ → List ℕ → List ℕ

@@ -3,21 +3,26 @@ ghost use mathlib.Core.Path.{_≡_};
 ghost use Prim.Native.Nat.{_+_, _≤_};
 ghost use lib.Dec.{T};
 ghost use lib.ListN.{length};
-ghost use Rattle.arrays.specs.Arrays.{InRange};
-ghost use Rattle.arrays.specs.Words.{listIn, leafIn};
+ghost use Rattle.game.specs.Lists.{spread};
+ghost use Rattle.solver_arrays.specs.Arrays.{InRange};
+ghost use Rattle.solver_arrays.specs.Words.{listIn, leafIn};
 ghost use Rattle.position.specs.Position.{fitsIn};
-ghost use Rattle.search.specs.TurnReply.{roomOf, Blank, Stands, TurnReplies};
-ghost use Rattle.search_run.specs.FirstTurn.{ZeroBelow, filled, wordsFrom, ownReasons, FirstWords};
-use arrays::put_reason;
+ghost use Rattle.search_turns.specs.TurnReply.{roomOf, Blank, Stands, TurnReplies};
+ghost use Rattle.search_run.specs.FirstTurn.{ZeroBelow, wordsFrom, ownReasons, FirstWords};
 use mask::contains_32;
 use mask::single_32;
 use position::Position;
 use position::narrowed_domains;
-use rule_set::RuleSet;
-use search::Outcome;
-use search::existential_turn;
-use search::last_turn;
-use search::universal_turn;
+use search_rules::Setting;
+use search_rules::Turn;
+use search_turns::Outcome;
+use search_turns::existential_turn;
+use search_turns::last_turn;
+use search_turns::universal_turn;
+use solver_arrays::Index;
+use solver_arrays::Near;
+use solver_arrays::Rows;
+use solver_arrays::put_reason;
 
 // Each of the d played variables is its own reason.
 fn own_reasons(d: usize, w: &mut [u16])
@@ -43,31 +48,32 @@ pub fn first_words(p: Position, n: usize, domains: &[u16; 32], w: &mut [u16])
 
 // The turn after d plays, of which none is checked yet.
 pub fn first_turn(
-    near: &[u32; 32],
-    index: &[u16; 1024],
-    rows: &[u16; 15888],
-    n: usize,
-    universal: u32,
-    set: RuleSet,
+    near: &Near,
+    index: &Index,
+    rows: &Rows,
+    g: Setting,
     d: usize,
     room: &mut [u16],
 ) -> Outcome
-    requires { ⌜ (n ≤ 32) × (d ≤ n) × (roomOf n d ≤ length (now room)) × InRange (now index) × Blank (roomOf n d) (now room) × Stands n universal (now near) (now index) (now rows) (set .bits) 0 d (now room) ⌝ }
-    ensures { λ r. ⌜ TurnReplies n universal (now (near .entry)) (now (index .entry)) (now (rows .entry)) (set .bits) 0 d (now (room .entry)) (now (room .exit)) r ⌝ }
+    requires { ⌜ (g .n ≤ 32) × (d ≤ g .n) × (roomOf (g .n) d ≤ length (now room)) × InRange (now index) × Blank (roomOf (g .n) d) (now room)
+        × Stands (g .n) (g .universal) (now near) (now index) (now rows) (g .set .bits) 0 d (now room) ⌝ }
+    ensures { λ r. ⌜ TurnReplies (g .n) (g .universal) (now (near .entry)) (now (index .entry)) (now (rows .entry)) (g .set .bits) 0 d
+        (now (room .entry)) (now (room .exit)) r ⌝ }
 {
-    if d == n {
-        return last_turn(near, index, rows, n, universal, set, 0, room);
+    if d == g.n {
+        return last_turn(near, index, rows, g, 0, room);
     }
-    if contains_32(universal, d) {
-        return universal_turn(near, index, rows, n, universal, set, 0, d, room);
+    let t = Turn { c: 0, d: d };
+    if contains_32(g.universal, d) {
+        return universal_turn(near, index, rows, g, t, room);
     }
-    existential_turn(near, index, rows, n, universal, set, 0, d, room)
+    existential_turn(near, index, rows, g, t, room)
 }
 
 // The `count` words from `start` on, and zero behind them.
 fn places(start: usize, count: usize, w: &[u16]) -> [u16; 32]
     requires { ⌜ (count ≤ 32) × (start + count ≤ length (now w)) ⌝ }
-    ensures { λ r. ⌜ r ≡ filled (wordsFrom start count (now (w .entry))) ⌝ }
+    ensures { λ r. ⌜ r ≡ spread (wordsFrom start count (now (w .entry))) ⌝ }
 {
     let mut out = [0u16; 32];
     let mut k = 0;
@@ -81,7 +87,7 @@ fn places(start: usize, count: usize, w: &[u16]) -> [u16; 32]
 // The list that a turn left, and zero behind its n domains.
 pub fn list_of(n: usize, w: &[u16]) -> [u16; 32]
     requires { ⌜ (n ≤ 32) × (128 ≤ length (now w)) ⌝ }
-    ensures { λ r. ⌜ r ≡ filled (listIn n (now (w .entry))) ⌝ }
+    ensures { λ r. ⌜ r ≡ spread (listIn n (now (w .entry))) ⌝ }
 {
     places(0, n, w)
 }
@@ -89,7 +95,7 @@ pub fn list_of(n: usize, w: &[u16]) -> [u16; 32]
 // The leaf of a turn, and zero behind its n values.
 pub fn leaf_of(n: usize, w: &[u16]) -> [u16; 32]
     requires { ⌜ (n ≤ 32) × (128 ≤ length (now w)) ⌝ }
-    ensures { λ r. ⌜ r ≡ filled (leafIn n (now (w .entry))) ⌝ }
+    ensures { λ r. ⌜ r ≡ spread (leafIn n (now (w .entry))) ⌝ }
 {
     places(96, n, w)
 }

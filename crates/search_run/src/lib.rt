@@ -1,16 +1,16 @@
-// One inner run: the search from a position, with the list that the rules of its first turn reach. Every public function is
-// for the crates above.
+// One inner run: the search from a position, with the list that the rules of its first turn reach, and the room that it needs. It rests
+// on `search_turns` and `position`. Every public function is for `judging` and `marking`, `ROOM` for `host` and `reporting`.
 ghost use mathlib.Core.Path.{_≡_};
 ghost use mathlib.Core.Bool.{cond};
 ghost use Prim.Native.Nat.{_≤_};
 ghost use lib.Dec.{T};
 ghost use lib.ListN.{length};
-ghost use Rattle.arrays.specs.Arrays.{InRange};
+ghost use Rattle.solver_arrays.specs.Arrays.{InRange, Posed};
 ghost use Rattle.position.specs.Position.{fitsIn};
-ghost use Rattle.turn_words.specs.TurnRoom.{zeroed};
-ghost use Rattle.search.specs.TurnReply.{roomOf};
+ghost use Rattle.search_words.specs.TurnRoom.{zeroed};
+ghost use Rattle.search_turns.specs.TurnReply.{roomOf};
 ghost use Rattle.search_run.specs.FirstTurn.{ZeroBelow};
-ghost use Rattle.search_run.specs.Run.{roomNeeded, Posed, Runs};
+ghost use Rattle.search_run.specs.Run.{roomWords, Runs};
 
 mod first;
 
@@ -20,8 +20,13 @@ use first::leaf_of;
 use first::list_of;
 use position::Position;
 use rule_set::RuleSet;
-use search::Outcome;
-use turn_words::zero_words;
+use search_rules::Setting;
+use search_turns::Outcome;
+use search_words::zero_words;
+use solver_arrays::Index;
+use solver_arrays::Near;
+use solver_arrays::Rows;
+use solver_arrays::Variables;
 
 // What a search from a position comes to: what the rules of the first turn reached, and the outcome.
 pub struct Ran {
@@ -32,10 +37,13 @@ pub struct Ran {
     pub leaf: [u16; 32],
 }
 
+// The words that every file's search can do with, for the entries that hold their own room: `room_needed(32)`.
+pub const ROOM: usize = 4224;
+
 // How many words a search of n variables has.
 pub fn room_needed(n: usize) -> usize
     requires { ⌜ n ≤ 32 ⌝ }
-    ensures { λ r. ⌜ r ≡ roomNeeded n ⌝ }
+    ensures { λ r. ⌜ r ≡ roomWords n ⌝ }
 {
     128 * (n + 1)
 }
@@ -49,22 +57,29 @@ fn conflict_of(o: Outcome) -> u32
 
 // The search from the position p in the room of its first turn, whose words are zero before and afterwards.
 fn run_in(
-    near: &[u32; 32],
-    index: &[u16; 1024],
-    rows: &[u16; 15888],
-    n: usize,
-    universal: u32,
-    domains: &[u16; 32],
+    near: &Near,
+    index: &Index,
+    rows: &Rows,
+    v: Variables,
     set: RuleSet,
     p: Position,
     room: &mut [u16],
 ) -> Ran
-    requires { ⌜ (n ≤ 32) × T (fitsIn p n (now domains)) × (roomOf n (p .plays) ≤ length (now room)) × InRange (now index) × ZeroBelow (roomOf n (p .plays)) (now room) × Posed n universal (now near) (now index) (now rows) (now domains) ⌝ }
-    ensures { λ r. ⌜ Runs n universal (now (near .entry)) (now (index .entry)) (now (rows .entry)) (now (domains .entry)) (set .bits) p r × (now (room .exit) ≡ now (room .entry)) ⌝ }
+    requires { ⌜ (v .n ≤ 32) × T (fitsIn p (v .n) (v .domains)) × (roomOf (v .n) (p .plays) ≤ length (now room)) × InRange (now index)
+        × ZeroBelow (roomOf (v .n) (p .plays)) (now room) × Posed v (now near) (now index) (now rows) ⌝ }
+    ensures { λ r. ⌜ Runs v (now (near .entry)) (now (index .entry)) (now (rows .entry)) (set .bits) p r
+        × (now (room .exit) ≡ now (room .entry)) ⌝ }
 {
     let d = p.plays;
-    first_words(p, n, domains, room);
-    let o = first_turn(near, index, rows, n, universal, set, d, room);
+    let n = v.n;
+    let domains = v.domains;
+    first_words(p, n, &domains, room);
+    let g = Setting {
+        n: n,
+        universal: v.universal,
+        set: set,
+    };
+    let o = first_turn(near, index, rows, g, d, room);
     let list = list_of(n, room);
     let leaf = leaf_of(n, room);
     zero_words(0, 128, room);
@@ -80,30 +95,20 @@ fn run_in(
 
 // The search from the position p. Whatever the first words of the room are, they are zero afterwards.
 pub fn run(
-    near: &[u32; 32],
-    index: &[u16; 1024],
-    rows: &[u16; 15888],
-    n: usize,
-    universal: u32,
-    domains: &[u16; 32],
+    near: &Near,
+    index: &Index,
+    rows: &Rows,
+    v: Variables,
     set: RuleSet,
     p: Position,
     room: &mut [u16],
 ) -> Ran
-    requires { ⌜ (n ≤ 32) × T (fitsIn p n (now domains)) × (roomNeeded n ≤ length (now room)) × InRange (now index) × Posed n universal (now near) (now index) (now rows) (now domains) ⌝ }
-    ensures { λ r. ⌜ Runs n universal (now (near .entry)) (now (index .entry)) (now (rows .entry)) (now (domains .entry)) (set .bits) p r × (now (room .exit) ≡ zeroed 0 (roomNeeded n) (now (room .entry))) ⌝ }
+    requires { ⌜ (v .n ≤ 32) × T (fitsIn p (v .n) (v .domains)) × (roomWords (v .n) ≤ length (now room)) × InRange (now index)
+        × Posed v (now near) (now index) (now rows) ⌝ }
+    ensures { λ r. ⌜ Runs v (now (near .entry)) (now (index .entry)) (now (rows .entry)) (set .bits) p r
+        × (now (room .exit) ≡ zeroed 0 (roomWords (v .n)) (now (room .entry))) ⌝ }
 {
-    zero_words(0, room_needed(n), room);
+    zero_words(0, room_needed(v.n), room);
     let d = p.plays;
-    run_in(
-        near,
-        index,
-        rows,
-        n,
-        universal,
-        domains,
-        set,
-        p,
-        &mut room[128 * d..],
-    )
+    run_in(near, index, rows, v, set, p, &mut room[128 * d..])
 }

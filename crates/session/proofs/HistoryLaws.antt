@@ -14,28 +14,27 @@ use Rattle.refusal.specs.declared.Verdict.the-variants.{Fine}
 use Rattle.refusal.specs.Chain.{_then_, need}
 use Rattle.refusal.proofs.Chain.{need-ok}
 use Rattle.refusal.specs.Told.{replied, refused}
-use Rattle.file_records.specs.Records.{verdictOf}
-use Rattle.problem_file.proofs.Accepted.{variables-most}
+use Rattle.file_reader.specs.Reading.{verdictOf}
+use Rattle.file_reader.proofs.Accepted.{variables-most}
 use Rattle.game.specs.Problem.{Problem}
-use Rattle.game.specs.Lists.{domains}
+use Rattle.game.specs.Lists.{domains, spread}
 use Rattle.game.specs.Position.{legal}
 use Rattle.game.specs.Calls.{Call, play, takeBack, withoutLast, afterCall, standingFrom, standing}
 use Rattle.game.specs.Open.{openValues, openCounts}
 use Rattle.theory.proofs.TurnLists.{legal-out}
 use Rattle.theory.proofs.Standing.{legal-after, standing-legal}
-use Rattle.tables.specs.FileProblem.{problemOf}
+use Rattle.file_decoder.specs.FileProblem.{problemOf}
 use Rattle.position.specs.declared.Position.{Position}
 use Rattle.position.specs.Position.{shown, playsOf, fitsIn}
 use Rattle.position.proofs.Fitting.{legal-fits}
 use Rattle.position.proofs.Shown.{plays-shown, pushed-shown, popped-shown, length-withoutLast}
 use Rattle.session.specs.declared.Played.{Played}
-use Rattle.session.specs.declared.Opened.{Opened}
 use Rattle.session.specs.declared.Answer.the-variants.{Done}
 use Rattle.session.specs.Plays.{answerBy, positionBy, fitTest, playTest, takeBackTest, playIn, takeBackIn}
-use Rattle.session.specs.Opening.{spread, listBy, openIn}
-use Rattle.session.specs.Told.{toldWith, told, toldOpened, playTold, playLeft, takeBackTold, takeBackLeft, openTold, masksShown, countsShown}
+use Rattle.session.specs.Opening.{listBy, openIn}
+use Rattle.session.specs.Told.{toldWith, told, toldOpened, playTold, playLeft, takeBackTold, takeBackLeft, openTold}
 use Rattle.session.specs.History.{callTold, step, reachedFrom, reachedBy, listTold, listOpened}
-use Rattle.session.proofs.FileLaws.{play-file, take-back-file, open-told, masks-shown, counts-shown}
+use Rattle.session.proofs.FileLaws.{play-file, take-back-file, open-told}
 
 module _ (P : Problem) (small : P .n ≤ 32) where
   -- A position that shows legal plays fits.
@@ -148,22 +147,10 @@ module _ (f : List ℕ) (fine : verdictOf f ≡ Fine) where
   pub reached-told : (cs : List Call) (c : Call) → callTold f (reachedBy f cs) c ≡ listTold P (standing P cs) c
   reached-told cs c = ap (λ (q : Position). callTold f q c) (reached-shows cs) ∙ call-told (standing P cs) c (standing-legal P cs)
 
-  -- The open values shown at the position reached are those of the plays that stand, and so are their counts.
+  -- The open values told at the position reached are those of the plays that stand, and so are their counts.
   pub reached-opens : (cs : List Call) → openTold f (reachedBy f cs) ≡ listOpened P (standing P cs)
   unfolding toldOpened toldWith listOpened
   reached-opens cs =
       ap (openTold f) (reached-shows cs)
       ∙ open-told f (shown (standing P cs)) fine
       ∙ ap toldOpened (open-by P few (standing P cs) (standing-legal P cs))
-
-  pub reached-masks : (cs : List Call) → masksShown f (reachedBy f cs) ≡ spread (openValues P (standing P cs))
-  reached-masks cs =
-      ap (masksShown f) (reached-shows cs)
-      ∙ masks-shown f (shown (standing P cs)) fine
-      ∙ ap (λ (o : Opened). o .masks) (open-by P few (standing P cs) (standing-legal P cs))
-
-  pub reached-counts : (cs : List Call) → countsShown f (reachedBy f cs) ≡ spread (openCounts P (standing P cs))
-  reached-counts cs =
-      ap (countsShown f) (reached-shows cs)
-      ∙ counts-shown f (shown (standing P cs)) fine
-      ∙ ap (λ (o : Opened). o .counts) (open-by P few (standing P cs) (standing-legal P cs))

@@ -8,7 +8,7 @@ use lib.Dec.{T, ltb}
 use lib.ListN.{getD}
 use borrow.Author.Tests.{ltb-true, lt-ltb, le-ltb}
 use Rattle.mask.specs.Mask.{bit}
-use Rattle.mask.proofs.Logic.{same, holds, true-holds, clash, by-lt}
+use Rattle.mask.proofs.Logic.{true-holds, clash, by-lt}
 use Rattle.mask.proofs.Bits.{bit-high}
 use Rattle.refusal.specs.declared.Verdict.{Verdict}
 use Rattle.refusal.specs.declared.Verdict.the-variants.{Fine, Refused as Not}

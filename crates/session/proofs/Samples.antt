@@ -5,7 +5,7 @@ use Prim.Native.Nat.{ℕ}
 use Rattle.mask.specs.Range.{each, count}
 use Rattle.mask.specs.Mask.{bit, maskOf}
 use Rattle.refusal.specs.Chain.{_then_, need}
-use Rattle.game.specs.Lists.{domains, listOf, masksOf}
+use Rattle.game.specs.Lists.{domains, listOf, masksOf, spread}
 use Rattle.game.specs.Open.{isOpen, openValues, openCounts}
 use Rattle.theory.proofs.Samples.{G1}
 use Rattle.position.specs.Position.{shown, playsOf, pushed, popped, placeFits, fitsAt, fitsIn}
@@ -13,7 +13,7 @@ use Rattle.session.specs.declared.Played.{Played}
 use Rattle.session.specs.declared.Opened.{Opened}
 use Rattle.session.specs.declared.Answer.the-variants.{Done, Refused}
 use Rattle.session.specs.Plays.{answerBy, positionBy, fitTest, playTest, takeBackTest, playIn, takeBackIn}
-use Rattle.session.specs.Opening.{spread, listBy, openIn}
+use Rattle.session.specs.Opening.{listBy, openIn}
 
 abbrev played : List ℕ → ℕ → Played
 played l a = playIn (G1 .n) (G1 .domain) (shown l) a
@@ -30,17 +30,17 @@ refused e l = record { answer = Refused e; position = shown l }
 -- G10 and plays around it: a value of 2, of 16, and one that is 0 when cut to a byte give 10; a full position gives 20 first.
 plays : (played [] 0 ≡ done (0 ∷ [])) × (played (0 ∷ []) 0 ≡ done (0 ∷ 0 ∷ [])) × (played [] 2 ≡ refused 10 []) × (played [] 16 ≡ refused 10 [])
     × (played [] 256 ≡ refused 10 []) × (played (0 ∷ 0 ∷ []) 2 ≡ refused 20 (0 ∷ 0 ∷ []))
-unfolding each bit need _then_ shown pushed placeFits fitsAt fitsIn answerBy positionBy fitTest playTest playIn
+unfolding each bit need _then_ spread shown pushed placeFits fitsAt fitsIn answerBy positionBy fitTest playTest playIn
 plays = (refl, refl, refl, refl, refl, refl)
 
 -- A take-back, and one of a fresh position.
 backs : (takenBack (0 ∷ 1 ∷ []) ≡ done (0 ∷ [])) × (takenBack (0 ∷ []) ≡ done []) × (takenBack [] ≡ refused 21 [])
-unfolding each bit need _then_ shown popped placeFits fitsAt fitsIn answerBy positionBy fitTest takeBackTest takeBackIn
+unfolding each bit need _then_ spread shown popped placeFits fitsAt fitsIn answerBy positionBy fitTest takeBackTest takeBackIn
 backs = (refl, refl, refl)
 
 -- A misfit gives 23 before anything else, and is returned as it is.
 misfit : (played (5 ∷ []) 9 ≡ refused 23 (5 ∷ [])) × (takenBack (0 ∷ 1 ∷ 0 ∷ []) ≡ refused 23 (0 ∷ 1 ∷ 0 ∷ []))
-unfolding each bit need _then_ shown placeFits fitsAt fitsIn answerBy positionBy fitTest playTest takeBackTest playIn takeBackIn
+unfolding each bit need _then_ spread shown placeFits fitsAt fitsIn answerBy positionBy fitTest playTest takeBackTest playIn takeBackIn
 misfit = (refl, refl)
 
 -- G9: after 0 the open values of variable 1 are {1}; the same shown of a fresh position, and of plays that clash.

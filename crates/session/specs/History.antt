@@ -6,12 +6,11 @@ use lib.Dec.{eqb, ltb}
 use lib.ListN.{length}
 use Rattle.refusal.specs.Told.{Told, replied, refused}
 use Rattle.game.specs.Problem.{Problem}
-use Rattle.game.specs.Lists.{domains}
+use Rattle.game.specs.Lists.{domains, spread}
 use Rattle.game.specs.Calls.{Call, play, takeBack}
 use Rattle.game.specs.Open.{openValues, openCounts}
 use Rattle.position.specs.declared.Position.{Position}
 use Rattle.position.specs.Position.{shown}
-use Rattle.session.specs.Opening.{spread}
 use Rattle.session.specs.Told.{playTold, playLeft, takeBackTold, takeBackLeft}
 
 module _ (f : List ℕ) where

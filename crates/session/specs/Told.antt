@@ -4,7 +4,7 @@ use Prim.Native.Nat.{ℕ}
 use mathlib.Core.List.{List, [], _++_}
 use lib.ListN.{replicate}
 use Rattle.refusal.specs.Told.{Told, replied, refused, refusedAt}
-use Rattle.rules.specs.Alone.{readFirst}
+use Rattle.file_decoder.specs.Read.{readFirst}
 use Rattle.position.specs.declared.Position.{Position}
 use Rattle.session.specs.declared.Answer.{Answer}
 use Rattle.session.specs.declared.Answer.the-variants.{Done, Refused, RefusedAt}

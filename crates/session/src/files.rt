@@ -5,9 +5,9 @@ use crate::Answer;
 use crate::Played;
 use crate::plays::play_in;
 use crate::plays::take_back_in;
+use file_reader::Header;
+use file_reader::read;
 use position::Position;
-use problem_file::Header;
-use problem_file::read;
 
 pub fn play_file(f: &[u8], p: Position, value: usize) -> Played
     ensures { λ r. ⌜ r ≡ playFile (now (f .entry)) p value ⌝ }
@@ -20,7 +20,7 @@ pub fn play_file(f: &[u8], p: Position, value: usize) -> Played
             answer: Answer::RefusedAt(number, place),
             position: p,
         },
-        Header::Accepted(n, _, _, _) => play_in(n as usize, &d, p, value),
+        Header::Accepted(head) => play_in(head.n as usize, &d, p, value),
     }
 }
 
@@ -35,6 +35,6 @@ pub fn take_back_file(f: &[u8], p: Position) -> Played
             answer: Answer::RefusedAt(number, place),
             position: p,
         },
-        Header::Accepted(n, _, _, _) => take_back_in(n as usize, &d, p),
+        Header::Accepted(head) => take_back_in(head.n as usize, &d, p),
     }
 }

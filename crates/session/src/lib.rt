@@ -1,19 +1,21 @@
-// The session's core by value: a play, a take-back and the open values of a position. Each call reads the file first, then
-// tests the position, then its argument. `play`, `take_back` and `open_values` are open to callers;
-// `play_file` and `take_back_file` are for the panel's session.
+// The session's core by value: a play, a take-back and the open values of a position. Each call reads the file first, then tests the
+// position, then its argument. It rests on `file_reader`, `file_decoder` and `position`. `play`, `take_back` and `open_values` are open
+// to callers; `play_file` and `take_back_file` are for `panel`.
 ghost use mathlib.Core.Path.{_≡_};
-ghost use Rattle.session.specs.Told.{told, toldOpened, playTold, playLeft, takeBackTold, takeBackLeft, openTold, masksShown, countsShown};
+ghost use Rattle.session.specs.Told.{told, playTold, playLeft, takeBackTold, takeBackLeft};
+ghost use Rattle.session.specs.Told.{toldOpened, openTold, masksShown, countsShown};
 
 mod files;
 mod open;
 mod plays;
 
+use file_decoder::decode;
 pub use files::play_file;
 pub use files::take_back_file;
 use open::open_in;
 use position::Position;
-use problem_file::Header;
-use tables::decode;
+use solver_arrays::ROWS;
+use solver_arrays::Variables;
 
 // What a call answers: done; refused by number; the file's refusal with its place.
 pub enum Answer {
@@ -58,16 +60,22 @@ pub fn open_values(f: &[u8], p: Position) -> Opened
 {
     let mut near = [0u32; 32];
     let mut index = [0u16; 1024];
-    let mut rows = [0u16; 15888];
-    let r = decode(f, &mut near, &mut index, &mut rows);
-    let h = r.header;
-    let d = r.domains;
-    match h {
-        Header::Refused(number, place) => Opened {
-            answer: Answer::RefusedAt(number, place),
+    let mut rows = [0u16; ROWS];
+    let d = decode(f, &mut near, &mut index, &mut rows);
+    if d.refused {
+        return Opened {
+            answer: Answer::RefusedAt(d.number, d.place),
             masks: [0u16; 32],
             counts: [0u8; 32],
-        },
-        Header::Accepted(n, _, _, u) => open_in(&index, &rows, n as usize, u, &d, p),
+        };
     }
+    // The file's own variables: the first n of those decoded.
+    let v = d.variables;
+    let domains = v.domains;
+    let own = Variables {
+        n: d.n,
+        universal: v.universal,
+        domains: domains,
+    };
+    open_in(&index, &rows, own, p)
 }

@@ -1,60 +1,28 @@
 // The open values of a position over the arrays of a problem.
 ghost use mathlib.Core.Path.{_≡_};
-ghost use Prim.Native.Nat.{_%_, _≤_, _<_};
+ghost use Prim.Native.Nat.{_≤_, _<_};
 ghost use Rattle.mask.specs.Range.{count};
 ghost use Rattle.mask.specs.Mask.{bit};
-ghost use Rattle.arrays.specs.Arrays.{InRange};
-ghost use Rattle.session.specs.Opening.{spread, valueAt, goingWith, openMask, openMasks, maskCounts, OpenIn};
+ghost use Rattle.solver_arrays.specs.Arrays.{InRange};
+ghost use Rattle.session.specs.Opening.{openMask, openAll, OpenIn};
 use crate::Answer;
 use crate::Opened;
 use crate::plays::fit_test;
-use arrays::row;
 use mask::contains_32;
 use mask::count_of;
-use mask::meet;
 use mask::single;
 use position::Position;
 use refusal::Verdict;
-
-fn cut(value: u8) -> usize
-    ensures { λ r. ⌜ (r ≡ value % 16) × (r < 16) ⌝ }
-{
-    value as usize % 16
-}
-
-// The value at place i. One that was played is below 16, so the cut changes nothing.
-fn value_at(values: &[u8; 32], i: usize) -> usize
-    requires { ⌜ i < 32 ⌝ }
-    ensures { λ r. ⌜ (r ≡ valueAt (now (values .entry)) i) × (r < 16) ⌝ }
-{
-    cut(values[i])
-}
-
-// The values in m of variable j that go with each of the first k values played.
-fn going_with(
-    index: &[u16; 1024],
-    rows: &[u16; 15888],
-    values: &[u8; 32],
-    k: usize,
-    m: u16,
-    j: usize,
-) -> u16
-    requires { ⌜ (k ≤ 32) × (j < 32) × InRange (now index) ⌝ }
-    ensures { λ r. ⌜ r ≡ goingWith (now (index .entry)) (now (rows .entry)) (now (values .entry)) k m j ⌝ }
-{
-    let mut out = m;
-    let mut i = 0;
-    while i < k {
-        out = meet(out, row(index, rows, i, value_at(values, i), j));
-        i += 1;
-    }
-    out
-}
+use solver_arrays::Index;
+use solver_arrays::Rows;
+use solver_arrays::Variables;
+use solver_arrays::going_with;
+use solver_arrays::value_at;
 
 // The open values of variable j, whose domain is m, after k plays.
 fn open_mask(
-    index: &[u16; 1024],
-    rows: &[u16; 15888],
+    index: &Index,
+    rows: &Rows,
     universal: u32,
     values: &[u8; 32],
     k: usize,
@@ -62,7 +30,7 @@ fn open_mask(
     j: usize,
 ) -> u16
     requires { ⌜ (k ≤ 32) × (j < 32) × InRange (now index) ⌝ }
-    ensures { λ r. ⌜ r ≡ openMask (now (index .entry)) (now (rows .entry)) (now (values .entry)) universal k m j ⌝ }
+    ensures { λ r. ⌜ r ≡ openMask (now (index .entry)) (now (rows .entry)) universal (now (values .entry)) k m j ⌝ }
 {
     if j < k {
         return single(value_at(values, j));
@@ -79,23 +47,16 @@ fn count_byte(m: u16) -> u8
     count_of(m) as u8
 }
 
-fn open_all(
-    index: &[u16; 1024],
-    rows: &[u16; 15888],
-    n: usize,
-    universal: u32,
-    domains: &[u16; 32],
-    values: &[u8; 32],
-    k: usize,
-) -> Opened
-    requires { ⌜ (n ≤ 32) × (k ≤ 32) × InRange (now index) ⌝ }
-    ensures { λ r. ⌜ (r .answer ≡ Answer.Done) × (r .masks ≡ spread (openMasks (now (index .entry)) (now (rows .entry)) (now (values .entry)) universal (now (domains .entry)) k n)) × (r .counts ≡ spread (maskCounts (now (index .entry)) (now (rows .entry)) (now (values .entry)) universal (now (domains .entry)) k n)) ⌝ }
+fn open_all(index: &Index, rows: &Rows, v: Variables, p: Position) -> Opened
+    requires { ⌜ (v .n ≤ 32) × (p .plays ≤ 32) × InRange (now index) ⌝ }
+    ensures { λ r. ⌜ r ≡ openAll (now (index .entry)) (now (rows .entry)) v p ⌝ }
 {
+    let values = p.values;
     let mut masks = [0u16; 32];
     let mut counts = [0u8; 32];
     let mut j = 0;
-    while j < n {
-        let m = open_mask(index, rows, universal, values, k, domains[j], j);
+    while j < v.n {
+        let m = open_mask(index, rows, v.universal, &values, p.plays, v.domains[j], j);
         masks[j] = m;
         counts[j] = count_byte(m);
         j += 1;
@@ -107,27 +68,18 @@ fn open_all(
     }
 }
 
-pub fn open_in(
-    index: &[u16; 1024],
-    rows: &[u16; 15888],
-    n: usize,
-    universal: u32,
-    domains: &[u16; 32],
-    p: Position,
-) -> Opened
-    requires { ⌜ (n ≤ 32) × InRange (now index) ⌝ }
-    ensures { λ r. ⌜ OpenIn n universal (now (index .entry)) (now (rows .entry)) (now (domains .entry)) p r ⌝ }
+pub fn open_in(index: &Index, rows: &Rows, v: Variables, p: Position) -> Opened
+    requires { ⌜ (v .n ≤ 32) × InRange (now index) ⌝ }
+    ensures { λ r. ⌜ OpenIn (now (index .entry)) (now (rows .entry)) v p r ⌝ }
 {
-    let v = fit_test(n, domains, p);
-    match v {
+    let d = v.domains;
+    let t = fit_test(v.n, &d, p);
+    match t {
         Verdict::Refused(number, _) => Opened {
             answer: Answer::Refused(number),
             masks: [0u16; 32],
             counts: [0u8; 32],
         },
-        Verdict::Fine => {
-            let values = p.values;
-            open_all(index, rows, n, universal, domains, &values, p.plays)
-        }
+        Verdict::Fine => open_all(index, rows, v, p),
     }
 }

@@ -8,25 +8,14 @@ ghost use Rattle.mask.specs.Mask.{bit};
 ghost use Rattle.session.specs.Plays.{fitTest, playTest, takeBackTest, playIn, takeBackIn};
 use crate::Answer;
 use crate::Played;
-use mask::contains;
 use position::Position;
 use position::fits;
+use position::holds;
 use position::popped;
 use position::pushed;
 use refusal::Verdict;
 use refusal::first;
 use refusal::needed;
-
-// Whether the mask holds the value, whatever its size.
-fn holds(m: u16, value: usize) -> bool
-    ensures { λ r. ⌜ r ≡ bit m value ⌝ }
-{
-    if value < 16 {
-        contains(m, value)
-    } else {
-        false
-    }
-}
 
 // A value of the mask, as a byte.
 fn byte_of(m: u16, value: usize) -> u8

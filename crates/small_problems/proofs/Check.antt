@@ -11,7 +11,7 @@ use Rattle.refusal.specs.declared.Verdict.{Verdict}
 use Rattle.refusal.specs.declared.Verdict.the-variants.{Fine}
 use Rattle.refusal.specs.declared.Verdict.the-variants.{Refused as Not}
 use Rattle.refusal.specs.Told.{Told, replied, refused, refusedAt}
-use Rattle.file_layout.specs.Layout.{nOf}
+use Rattle.file_decoder.specs.FileProblem.{problemOf}
 use Rattle.file_records.specs.Records.{verdictOf}
 use Rattle.game.specs.Problem.{Problem}
 use Rattle.game.specs.Calls.{Call}
@@ -20,7 +20,7 @@ use Rattle.search_run.specs.Run.{roomNeeded}
 use Rattle.session.specs.History.{reachedBy}
 use Rattle.small_problems.specs.Questions.{Question, answer}
 use Rattle.small_problems.specs.Table.{Line, _gives_, Stage, after, Row}
-use Rattle.small_problems.specs.Claim.{LinesHold, StagesHold, Holds, RowsHold}
+use Rattle.small_problems.specs.Claim.{LinesHold, StagesHold, RowHolds, RowsHold}
 use Rattle.small_problems.proofs.Once.{readOnce, once-is}
 use Rattle.small_problems.proofs.Plain.{plainly, answer-plain}
 
@@ -98,7 +98,7 @@ unfoldable pub rowsPass : List Row → Bool
 rowsPass [] = true
 rowsPass (r ∷ rs) = passes r && rowsPass rs
 
-module _ (f : List ℕ) (fine : verdictOf f ≡ Fine) (set words : ℕ) (known : set ≤ greatestSet) (enough : roomNeeded (nOf f) ≤ words) where
+module _ (f : List ℕ) (fine : verdictOf f ≡ Fine) (set words : ℕ) (known : set ≤ greatestSet) (enough : roomNeeded (problemOf f fine) ≤ words) where
   abbrev P : Problem
   P = readOnce f fine
 
@@ -117,13 +117,13 @@ module _ (f : List ℕ) (fine : verdictOf f ≡ Fine) (set words : ℕ) (known :
   stages-hold (after cs ls ∷ ss) t = let h = and-out (linesPass f P cs ls) (stagesPass f P ss) t in (lines-hold cs ls (h .0), stages-hold ss (h .1))
 
 -- A row that passes holds.
-pass-holds : (r : Row) → T (passes r) → Holds r
+pass-holds : (r : Row) → T (passes r) → RowHolds r
 unfolding passes
 pass-holds r t =
     let f = r .file in
     let h = and-out (isBytes f) _ t in
     let k = and-then (isFine (verdictOf f)) _ (h .1) in
-    record { bytes = bytes-of f (h .0); answered = λ set words known enough. stages-hold f (fine-of (verdictOf f) (k .0)) set words known enough (r .stages) (k .1) }
+    record { bytes = bytes-of f (h .0); fine = fine-of (verdictOf f) (k .0); answered = λ set words known enough. stages-hold f (fine-of (verdictOf f) (k .0)) set words known enough (r .stages) (k .1) }
 
 pub rows-hold : (rs : List Row) → T (rowsPass rs) → RowsHold rs
 unfolding rowsPass RowsHold

@@ -9,12 +9,12 @@ use Rattle.refusal.specs.declared.Verdict.{Verdict}
 use Rattle.refusal.specs.declared.Verdict.the-variants.{Fine}
 use Rattle.file_layout.specs.Layout.{nOf}
 use Rattle.file_records.specs.Records.{verdictOf}
-use Rattle.problem_file.specs.Reading.{domainOf, universalOf}
-use Rattle.pair_lookup.specs.Lookup.{lookFor, lookUp}
+use Rattle.file_reader.specs.Reading.{domainOf, universalOf}
+use Rattle.file_lookup.specs.Lookup.{lookFor, lookUp}
 use Rattle.file_constraints.specs.Pairs.{found, allows, constrainedOf, compatibleOf}
 use Rattle.game.specs.Problem.{Problem}
 use Rattle.game.specs.Lists.{listOf}
-use Rattle.tables.specs.FileProblem.{problemOf}
+use Rattle.file_decoder.specs.FileProblem.{problemOf}
 
 module _ (f : List ℕ) where
   -- The parts that go by the verdict v.

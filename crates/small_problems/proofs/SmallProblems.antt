@@ -7,13 +7,13 @@ use Rattle.mask.specs.Range.{some, each, count}
 use Rattle.mask.specs.Mask.{bit, maskOf}
 use Rattle.refusal.specs.Chain.{_then_, need, only}
 use Rattle.file_layout.specs.Numbers.{countsFit, inOrder, pairOf, rowFits, rowsFit, constraintFits}
-use Rattle.file_layout.specs.Layout.{word, marked, opened, rulesOf, variablesAt, domainAt, universalAt, rowAt, pairAt, constraintsAt}
+use Rattle.file_layout.specs.Layout.{word, marked, opened, rulesOf, variablesAt, domainAt, universalAt, rowAt, pairAt, constraintsAt, afterConstraints, endAt}
 use Rattle.file_records.specs.Records.{qpTest, rsTest, variableTest as variableFine, variablesTest, constraintTest, lastPair, constraintsTest, enTest, restTest, verdictOf}
-use Rattle.problem_file.specs.Reading.{ruleNumbers, headerNumbers, domainOf, universalOf, universalBits, headerFor, headerOf}
-use Rattle.pair_lookup.specs.Lookup.{placeTo, placeOf, lookFor, lookUp, rowsAt}
+use Rattle.file_reader.specs.Reading.{ruleNumbers, headerNumbers, headOf, domainOf, universalOf, universalBits, headerFor, headerOf}
+use Rattle.file_lookup.specs.Lookup.{placeTo, pairPlace, lookFor, lookUp, rowsAt}
 use Rattle.file_constraints.specs.Pairs.{found, allows}
 use Rattle.game.specs.Game.{put, turn, satisfied, won, wins}
-use Rattle.game.specs.Lists.{domains, listOf, masksOf, within, mayLend, winsOver}
+use Rattle.game.specs.Lists.{domains, listOf, masksOf, spread, within, mayLend, winsOver}
 use Rattle.game.specs.Position.{narrowed, position}
 use Rattle.game.specs.Calls.{withoutLast, afterCall, standingFrom, standing}
 use Rattle.game.specs.Open.{isOpen, openValues, openCounts}
@@ -22,9 +22,9 @@ use Rattle.game.specs.Support.{clashes, alone, empty}
 use Rattle.game.specs.Arc.{dead, barred, arcLoss, sweep, swept, arc}
 use Rattle.game.specs.Pure.{isPure, pure}
 use Rattle.game.specs.Interchangeable.{interchange, representatives, interchangeable}
-use Rattle.rules.specs.Lend.{listTest, variableTest}
-use Rattle.rules.specs.Alone.{lossFor, maskFor, listFor, arcReply, arcList, pureReply, interchangeableReply}
-use Rattle.session.specs.Opening.{spread}
+use Rattle.rule_entries.specs.Lend.{listTest, variableTest}
+use Rattle.refusal.specs.Replied.{repliedFor, listFor}
+use Rattle.rule_entries.specs.Alone.{arcReply, arcList, pureReply, interchangeableReply}
 use Rattle.session.specs.History.{listTold, listOpened}
 use Rattle.history.specs.Replay.{listMarked}
 use Rattle.small_problems.specs.Files.{words, variables, constraints, file}
@@ -40,7 +40,7 @@ unfolding words variables constraints file
 layout = tt
 
 reading : Unit {0}
-unfolding some each bit maskOf _then_ need only countsFit inOrder pairOf rowFits rowsFit constraintFits word marked opened rulesOf variablesAt domainAt universalAt rowAt pairAt constraintsAt qpTest rsTest variableFine variablesTest constraintTest lastPair constraintsTest enTest restTest verdictOf ruleNumbers headerNumbers universalBits headerFor headerOf placeTo placeOf lookFor lookUp rowsAt
+unfolding some each bit maskOf _then_ need only countsFit inOrder pairOf rowFits rowsFit constraintFits word marked opened rulesOf variablesAt domainAt universalAt rowAt pairAt constraintsAt afterConstraints endAt qpTest rsTest variableFine variablesTest constraintTest lastPair constraintsTest enTest restTest verdictOf ruleNumbers headerNumbers headOf universalBits headerFor headerOf placeTo pairPlace lookFor lookUp rowsAt
 reading = tt
 
 game : Unit {0}
@@ -48,7 +48,7 @@ unfolding count put turn satisfied won wins domains listOf masksOf within mayLen
 game = tt
 
 replies : Unit {0}
-unfolding domainOf universalOf found allows listTest variableTest lossFor maskFor listFor arcReply arcList pureReply interchangeableReply spread listTold listOpened listMarked plainly
+unfolding domainOf universalOf found allows listTest variableTest repliedFor listFor arcReply arcList pureReply interchangeableReply spread listTold listOpened listMarked plainly
 replies = tt
 
 checking : Unit {0}

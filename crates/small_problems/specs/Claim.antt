@@ -4,7 +4,9 @@ use mathlib.Core.Path.{_≡_}
 use mathlib.Core.List.{List, [], _∷_}
 use lib.ListN.{getD}
 use Rattle.rule_set.specs.RuleSet.{greatestSet}
-use Rattle.file_layout.specs.Layout.{nOf}
+use Rattle.refusal.specs.declared.Verdict.the-variants.{Fine}
+use Rattle.file_reader.specs.Reading.{verdictOf}
+use Rattle.file_decoder.specs.FileProblem.{problemOf}
 use Rattle.game.specs.Calls.{Call}
 use Rattle.search_run.specs.Run.{roomNeeded}
 use Rattle.session.specs.History.{reachedBy}
@@ -21,11 +23,12 @@ module _ (f : List ℕ) (set words : ℕ) where
   StagesHold [] = Unit {0}
   StagesHold (after cs ls ∷ ss) = LinesHold cs ls × StagesHold ss
 
--- A row holds: its file is one of, and each question has its answer, under every rule set and in every room that is large enough.
-pub record Holds (r : Row) : Type 0 where
+-- A row holds: its file is accepted, and each question has its answer, under every rule set and in every room that is large enough.
+pub record RowHolds (r : Row) : Type 0 where
   pub bytes : (k : ℕ) → getD (r .file) k 0 < 256
-  pub answered : (set words : ℕ) → set ≤ greatestSet → roomNeeded (nOf (r .file)) ≤ words → StagesHold (r .file) set words (r .stages)
+  pub fine : verdictOf (r .file) ≡ Fine
+  pub answered : (set words : ℕ) → set ≤ greatestSet → roomNeeded (problemOf (r .file) fine) ≤ words → StagesHold (r .file) set words (r .stages)
 
 unfoldable pub RowsHold : List Row → Type 0
 RowsHold [] = Unit {0}
-RowsHold (r ∷ rs) = Holds r × RowsHold rs
+RowsHold (r ∷ rs) = RowHolds r × RowsHold rs

@@ -3,10 +3,10 @@ use Prim.Native.Nat.{ℕ}
 use mathlib.Core.List.{List, [], _∷_}
 use lib.ListN.{length}
 use Rattle.refusal.specs.Told.{Told, replied}
-use Rattle.problem_file.specs.Reading.{headerOf}
-use Rattle.pair_lookup.specs.Lookup.{lookUp}
+use Rattle.file_reader.specs.Reading.{headerOf}
+use Rattle.file_lookup.specs.Lookup.{lookUp}
 use Rattle.game.specs.Calls.{Call}
-use Rattle.rules.specs.Alone.{arcTold, arcLeft, pureTold, interchangeableTold}
+use Rattle.rule_entries.specs.Alone.{arcTold, arcLeft, pureTold, interchangeableTold}
 use Rattle.position.specs.declared.Position.{Position}
 use Rattle.session.specs.Told.{openTold}
 use Rattle.session.specs.History.{callTold}

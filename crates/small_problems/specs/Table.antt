@@ -2,8 +2,8 @@
 use Prim.Native.Nat.{ℕ}
 use mathlib.Core.List.{List, [], _∷_, _++_}
 use Rattle.refusal.specs.Told.{Told, replied, refused}
+use Rattle.game.specs.Lists.{spread}
 use Rattle.game.specs.Calls.{Call, play, takeBack}
-use Rattle.session.specs.Opening.{spread}
 use Rattle.small_problems.specs.Files.{existential, universal, between, file}
 use Rattle.small_problems.specs.Questions.{Question, size, reading, lookingUp, judging, marking, opening, calling, arc, arcLeaving, pureAt, interchangeableAt}
 

@@ -75,7 +75,7 @@ module _ (P : Problem) where
             alone-out x a y (and-out (ltb x y) (alone P D x a y) t .1) (r .0 y) (r .1 y ly) (rw (r .2 x lx sx, put-at v x a) at (r .3 x y lx ly ne))
 
     -- Rule 1: a loss is a loss.
-    pub arc-loses : T (arcLoss P D) → start P D ≡ false
+    arc-loses : T (arcLoss P D) → start P D ≡ false
     unfolding arcLoss
     arc-loses t = fails λ w.
         let r = some-out n (λ x. true) (λ x. cond (universal x) (some 16 (D x) (λ a. some n (constrained x) (barred P D x a))) (empty P D x)) t in

@@ -10,10 +10,9 @@ use lib.Bits.{bitOr}
 use lib.ListN.{getD, length}
 use borrow.Author.Tests.{lt-ltb, le-ltb, ne-eqb}
 use Rattle.mask.specs.Range.{some, first}
-use Rattle.mask.specs.Mask.{bit, maskOf}
-use Rattle.mask.proofs.Masks.{bit-maskOf}
+use Rattle.mask.specs.Mask.{bit}
 use Rattle.mask.proofs.Logic.{holds, clash, by-lt, and-in, and-out}
-use Rattle.mask.proofs.Range.{some-out, some-in, first-of}
+use Rattle.mask.proofs.Range.{some-out, some-in, first-of, first-in}
 use Rattle.game.specs.Problem.{Problem}
 use Rattle.game.specs.Game.{narrow, Domains, Play}
 use Rattle.game.specs.Lists.{domains}
@@ -34,7 +33,6 @@ use Rattle.theory.proofs.Sound.{State, Sound}
 use Rattle.theory.proofs.Turn
 use Rattle.theory.proofs.Lists.{length-listOf, getD-listOf}
 use Rattle.theory.proofs.OnLists
-use Rattle.theory.proofs.Lists.{first-in}
 use Rattle.theory.proofs.Conflict.{Conflict, conflict-more}
 use Rattle.theory.proofs.Reasons
 use Rattle.theory.proofs.Reasons.{Told, Cut}
@@ -112,13 +110,6 @@ module _ (P : Problem) (F : Domains) (foe : Play) (foe-in : Answers P F foe) whe
   unfolding forwardConflict domains
   conflict-at l R k a j t =
       let x = forwardNamed P k a l in in-right (getD R k 0) (bitOr (getD R x 0) (neighbours P x)) j (in-left (getD R x 0) (neighbours P x) j t)
-
-  -- The played neighbours of that variable are in it too.
-  pub conflict-near : (l R : List ℕ) (k a j : ℕ) → j < n → T (constrained (forwardNamed P k a l) j) → T (bit (forwardConflict P l R k a) j)
-  unfolding forwardConflict neighbours
-  conflict-near l R k a j h t =
-      let x = forwardNamed P k a l in
-      in-right (getD R k 0) (bitOr (getD R x 0) (maskOf n (constrained x))) j (in-right (getD R x 0) (maskOf n (constrained x)) j (rw (bit-maskOf n (constrained x) j h) t))
 
   -- The reasons after a check: none is lost, and a variable that lost a value has the reason of k.
   module _ (l R : List ℕ) (w : Formed P (record { list = l; why = R })) (k a : ℕ) (lk : k < n) (la : a < 16) where
@@ -229,7 +220,7 @@ module _ (P : Problem) (F : Domains) (foe : Play) (foe-in : Answers P F foe) whe
       chain-holds i (playOf p) (explainForward P x (getD p x 0)) (explainChecks P k (suc x) p) (explainForward-holds i (playOf p) l x (omega arith)) (explainChecks-hold i p l k (suc x) (omega arith))
 
   -- Rule 3 ---------------------------------------------------------------------------------------------------------------
-  pub explainAhead-holds : (i : ℕ) (p : Play) → i < n → Holds i p (explainAhead P i)
+  explainAhead-holds : (i : ℕ) (p : Play) → i < n → Holds i p (explainAhead P i)
   unfolding explainAhead Turn.ahead lookAhead aheadLoss
   explainAhead-holds i p li l R w = record {
     verdict = Turn.ahead-keeps P i p li (domains l) (w .state);
@@ -263,7 +254,7 @@ module _ (P : Problem) (F : Domains) (foe : Play) (foe-in : Answers P F foe) whe
 
   -- Rule 1 ---------------------------------------------------------------------------------------------------------------
   -- The conflict set of an arc loss loses, whatever list and reasons the revisions left.
-  pub arcConflict-loses : (i : ℕ) (p : Play) (l R : List ℕ) → i ≤ n → (v : Play) → Answers P (domains l) v → Told P F foe foe-in i p (domains l) (domains R) → T (arcLoss P (domains l)) → Conflict P F (bit (arcConflict P l R)) i p
+  arcConflict-loses : (i : ℕ) (p : Play) (l R : List ℕ) → i ≤ n → (v : Play) → Answers P (domains l) v → Told P F foe foe-in i p (domains l) (domains R) → T (arcLoss P (domains l)) → Conflict P F (bit (arcConflict P l R)) i p
   unfolding arcLoss arcConflict emptied against barred domains
   arcConflict-loses i p l R li v f w t = by-lt x n
       (λ h. rw (lt-ltb x n h) (by-empty h)) (λ h. rw (le-ltb x n h) (by-bar h))

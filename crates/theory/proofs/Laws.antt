@@ -47,12 +47,7 @@ module _ (P : Problem) where
   abbrev pub Pure : Domains → ℕ → ℕ → Type 0
   Pure D x a = (j : ℕ) → j < n → ¬ (j ≡ x) → (c : ℕ) → In (D j) c → T (compatible x a j c)
 
-  -- An existential variable narrowed to a pure value; a universal one to a part that lacks only pure values.
-  pub pure-existential : (D : Domains) (x a : ℕ) → x < n → universal x ≡ false → In (D x) a → Pure D x a
-      → start P D ≡ start P (narrow D x a)
-  pure-existential D x a lx s h pu =
-      narrowing D x (λ b. eqb b a) lx (λ b k. rw (eqb→eq b a (k .1)) (h .1)) (rw s λ b k w. (a, (h .0, eqb-refl a), λ j l ne c v t. pu j l ne c v))
-
+  -- A universal variable narrowed to a part that lacks only pure values.
   pub pure-universal : (D : Domains) (x : ℕ) (m : ℕ → Bool) → x < n → universal x ≡ true → ((a : ℕ) → In m a → T (D x a))
       → (a : ℕ) → In m a → ((b : ℕ) → In (D x) b → m b ≡ false → Pure D x b)
       → start P D ≡ start P (replace D x m)

@@ -16,6 +16,8 @@ pub mod Swap
 pub mod Laws
 -- Rules 1 to 3.
 pub mod Arc
+-- Look ahead where rule 1 finds no loss.
+pub mod AheadIdle
 -- Rule 1 leaves none dead, whatever the order.
 pub mod Closure
 -- Rule 4.
@@ -31,6 +33,8 @@ pub mod Positions
 -- Over lists of masks ------------------------------------------------------------------------------------------------------------
 -- Lists against domains; lists that may be lent.
 pub mod Lists
+-- Lists in 32 places, zero behind them.
+pub mod SpreadLaws
 -- Rules 1 to 5 on lists.
 pub mod OnLists
 -- The turn on lists.
@@ -56,12 +60,16 @@ pub mod Explained
 pub mod Narrowed
 -- One turn: the loops over values, the leaf, what is skipped.
 pub mod Values
+-- One value of a turn by the lowest member of the mask that is left.
+pub mod ValueLaws
 -- The law of the search.
 pub mod Search
 -- The list that a turn reaches does not depend on reasons.
 pub mod Plain
 -- The turns of a search, and what holds at each.
 pub mod Turns
+-- Variables without effect on others.
+pub mod Quiet
 -- Conflict sets change no leaf.
 pub mod SameLeaf
 -- The search computed on small problems.

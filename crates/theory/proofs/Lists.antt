@@ -1,6 +1,6 @@
 -- Lists of masks against domains: the two forms say the same, so every law of domains is a law of lists.
-use mathlib.Core.Path.{_≡_, refl, sym, ap, _∙_, fun-ext}
-use mathlib.Core.Bool.{Bool, true, false, not, _&&_}
+use mathlib.Core.Path.{_≡_, refl, sym, ap, _∙_, fun-ext, ap₂}
+use mathlib.Core.Bool.{Bool, true, false, not, _&&_, cond}
 use mathlib.Core.List.{List, [], _∷_}
 use Prim.Native.Nat.{ℕ, zero, suc, _^_, _≤_, _<_}
 use native.Mathlib.Omega.{arith}
@@ -10,10 +10,10 @@ use lib.Seq.{ext-getD, getD-set-same, getD-set-other}
 use lib.Pow.{pow-lt}
 use lib.Bits.{bitAnd, and-le-l}
 use borrow.Author.Tests.{eq-eqb, ne-eqb, lt-ltb, le-ltb}
-use Rattle.mask.specs.Range.{some, each, first}
+use Rattle.mask.specs.Range.{some, each}
 use Rattle.mask.specs.Mask.{bit, maskOf}
-use Rattle.mask.proofs.Logic.{holds, fails, clash, test, by-eq, by-lt, and-in, and-out}
-use Rattle.mask.proofs.Range.{each-out, each-in, some-out, some-in, first-has, first-least}
+use Rattle.mask.proofs.Logic.{fails, clash, test, by-eq, by-lt, and-in, and-out}
+use Rattle.mask.proofs.Range.{each-out, each-in, some-out, some-in}
 use Rattle.mask.proofs.Bits.{bit-single, bit-of-zero, bit-high, bit-none, bit-and, bit-ext}
 use Rattle.mask.proofs.Masks.{maskOf-lt, bit-maskOf, maskOf-bits}
 use Rattle.game.specs.Problem.{Problem}
@@ -26,13 +26,6 @@ use Rattle.theory.proofs.Swap.{start, wins-start}
 -- Domains with no value outside n variables of 16 values.
 abbrev pub Boxed : ℕ → Domains → Type 0
 Boxed n D = (j a : ℕ) → T (D j a) → (j < n) × (a < 16)
-
--- `first` of a test that some number below n passes is below n and passes.
-pub first-in : (n : ℕ) (q : ℕ → Bool) (k : ℕ) → k < n → T (q k) → (first n q < n) × T (q (first n q))
-first-in n q k h t = (
-  by-lt (first n q) n (λ l. l) (λ l. absurd (clash (first-least n q k (omega arith)) t)),
-  rw (first-has n q k h (holds {b = q k} t)) tt,
-)
 
 -- The elements of a list that a function makes.
 pub length-listOf : (n : ℕ) (f : ℕ → ℕ) → length (listOf n f) ≡ n
@@ -55,6 +48,22 @@ listOf-below n f w h i = by-lt i n (λ l. omega (arith, getD-listOf n f i l, h i
 
 pub listOf-some : (n : ℕ) (f : ℕ → ℕ) → ((i : ℕ) → i < n → ¬ (f i ≡ 0)) → (i : ℕ) → i < n → ¬ (getD (listOf n f) i 0 ≡ 0)
 listOf-some n f h i l e = h i l (sym (getD-listOf n f i l) ∙ e)
+
+-- Lists of equal numbers are equal; a number stored in such a list.
+pub listOf-same : (n : ℕ) (f g : ℕ → ℕ) → ((k : ℕ) → k < n → f k ≡ g k) → listOf n f ≡ listOf n g
+unfolding listOf
+listOf-same zero f g e = refl
+listOf-same (suc n) f g e = ap₂ (λ (a : ℕ) (l : List ℕ). a ∷ l) (e 0 (omega arith)) (listOf-same n (λ k. f (suc k)) (λ k. g (suc k)) (λ k h. e (suc k) (omega arith)))
+
+pub set-listOf : (n : ℕ) (f : ℕ → ℕ) (j v : ℕ) → j < n → set (listOf n f) j v ≡ listOf n (λ k. cond (eqb k j) v (f k))
+set-listOf n f j v h =
+    let p = length-listOf n f in
+    let q = length-listOf n (λ k. cond (eqb k j) v (f k)) in
+    let s = length-set (listOf n f) j v in
+    ext-getD 0 (set (listOf n f) j v) (listOf n (λ k. cond (eqb k j) v (f k))) (s ∙ p ∙ sym q) λ k l.
+    rw (getD-listOf n (λ k. cond (eqb k j) v (f k)) k (omega arith)) (by-eq k j
+    (λ e. rw (e, getD-set-same (listOf n f) j v 0 (omega arith), eq-eqb j j refl))
+    (λ e. rw (getD-set-other (listOf n f) j k v 0 e, ne-eqb k j e) (getD-listOf n f k (omega arith))))
 
 -- The masks of domains are n masks of 16 bits, and state these domains.
 pub masksOf-masks : (n : ℕ) (D : Domains) → Masks n (masksOf n D)
@@ -128,6 +137,27 @@ placed-at l [] h j a = rw (le-ltb j 0 (omega arith))
 placed-at [] (v ∷ p) h j a = absurd (omega arith)
 placed-at (m ∷ l) (v ∷ p) h zero a = rw (lt-ltb 0 (suc (length p)) (omega arith)) (bit-single v a)
 placed-at (m ∷ l) (v ∷ p) h (suc j) a = rw (ltb·suc j (length p)) (placed-at l p (omega arith) j a)
+
+-- A list of masks with plays narrowed: its length, a mask of a play, another mask.
+pub length-narrowed : (l p : List ℕ) → length (narrowed l p) ≡ length l
+unfolding narrowed
+length-narrowed l [] = refl
+length-narrowed [] (a ∷ p) = refl
+length-narrowed (m ∷ l) (a ∷ p) = ap suc (length-narrowed l p)
+
+pub narrowed-played : (l p : List ℕ) (i : ℕ) → length p ≤ length l → i < length p → getD (narrowed l p) i 0 ≡ 2 ^ getD p i 0
+unfolding narrowed
+narrowed-played l [] i h k = absurd (omega arith)
+narrowed-played [] (a ∷ p) i h k = absurd (omega arith)
+narrowed-played (m ∷ l) (a ∷ p) zero h k = refl
+narrowed-played (m ∷ l) (a ∷ p) (suc i) h k = narrowed-played l p i (omega arith) (omega arith)
+
+pub narrowed-unplayed : (l p : List ℕ) (i : ℕ) → length p ≤ i → getD (narrowed l p) i 0 ≡ getD l i 0
+unfolding narrowed
+narrowed-unplayed l [] i h = refl
+narrowed-unplayed [] (a ∷ p) i h = refl
+narrowed-unplayed (m ∷ l) (a ∷ p) zero h = absurd (omega arith)
+narrowed-unplayed (m ∷ l) (a ∷ p) (suc i) h = narrowed-unplayed l p i (omega arith)
 
 pub domains-narrowed : (l p : List ℕ) → length p ≤ length l → domains (narrowed l p) ≡ placed (domains l) (length p) (playOf p)
 domains-narrowed l p h = fun-ext λ j. fun-ext λ a. placed-at l p h j a

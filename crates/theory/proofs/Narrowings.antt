@@ -6,14 +6,13 @@ use Prim.Native.Nat.{ℕ, _*_, _^_, _<_}
 use native.Mathlib.Omega.{arith}
 use lib.Dec.{T, T-not, not-T, eqb, eqb→eq, eqb-refl}
 use lib.ListN.{getD, set}
-use lib.Seq.{set-getD}
 use lib.Pow.{pow-lt}
 use Rattle.mask.specs.Range.{some, first}
 use Rattle.mask.specs.Mask.{bit, diff, maskOf}
 use Rattle.mask.proofs.Logic.{same, holds, fails, clash, test, by-eq, by-lt, and-in, and-out}
-use Rattle.mask.proofs.Range.{some-out, some-in, first-least}
+use Rattle.mask.proofs.Range.{some-out, some-in, first-least, first-in}
 use Rattle.mask.proofs.Bits.{bit-single, bit-diff, bit-none, bit-of-zero, bit-ext}
-use Rattle.mask.proofs.Masks.{maskOf-lt, bit-maskOf, maskOf-bits, diff-lt}
+use Rattle.mask.proofs.Masks.{maskOf-lt, bit-maskOf, diff-lt}
 use Rattle.game.specs.Problem.{Problem}
 use Rattle.game.specs.Game.{Domains, replace, narrow}
 use Rattle.game.specs.Lists.{domains, narrowTo, Masks}
@@ -30,7 +29,7 @@ use Rattle.theory.proofs.Turn
 use Rattle.theory.proofs.OnLists
 use Rattle.theory.proofs.OnLists.{lowestOf, answers}
 use Rattle.theory.proofs.TurnLists
-use Rattle.theory.proofs.Lists.{Lent, domains-boxed, bits-of, first-in}
+use Rattle.theory.proofs.Lists.{Lent, domains-boxed, bits-of}
 
 -- The lowest member as a mask.
 pub lowest-mask : (q : ℕ → Bool) (k : ℕ) → k < 16 → T (q k) → maskOf 16 (lowest q) ≡ 2 ^ first 16 q
@@ -74,14 +73,6 @@ module _ (P : Problem) (l : List ℕ) (w : Masks (P .n) l) (x : ℕ) (lx : x < P
       let v = any-pure ne in
       let e : some 16 (isPure P D x) (λ b. true) ≡ true = holds {b = some 16 (isPure P D x) (λ b. true)} (some-in 16 (isPure P D x) (λ b. true) (v .0) (v .1) (v .2) tt) in
       ap (set l x) (ap (maskOf 16) (fun-ext λ a. rw (s, e)) ∙ lowest-mask (isPure P D x) (v .0) (v .1) (v .2) ∙ ap (λ (f : ℕ → Bool). 2 ^ first 16 f) (sym pure-bits))
-
-  pub purge-none : universal x ≡ false → pure P x l ≡ 0 → purge P x l ≡ l
-  unfolding purge purged domains
-  purge-none s z =
-      let e : some 16 (isPure P D x) (λ b. true) ≡ false = fails {b = some 16 (isPure P D x) (λ b. true)} λ t.
-      let r = some-out 16 (isPure P D x) (λ b. true) t in
-      clash {b = bit (pure P x l) (r .0)} (rw z (bit-of-zero (r .0))) (rw (ap (λ (f : ℕ → Bool). f (r .0)) pure-bits) (r .2)) in
-      ap (set l x) (ap (maskOf 16) (fun-ext λ a. rw (s, e)) ∙ sym (maskOf-bits 16 (getD l x 0) (w .small x))) ∙ set-getD l x 0
 
   -- Universal: the values that are not pure, or the smallest where all are.
   abbrev impure : ℕ

@@ -10,7 +10,7 @@ use borrow.Author.Tests.{eqb-true}
 use Rattle.mask.specs.Range.{some, first}
 use Rattle.mask.specs.Mask.{bit, diff, maskOf}
 use Rattle.mask.proofs.Logic.{same, holds, fails, clash, test, by-eq, and-in, and-out}
-use Rattle.mask.proofs.Range.{some-out, first-least}
+use Rattle.mask.proofs.Range.{some-out, first-least, first-in}
 use Rattle.mask.proofs.Bits.{bit-diff}
 use Rattle.mask.proofs.Masks.{maskOf-lt, diff-lt}
 use Rattle.game.specs.Problem.{Problem}
@@ -33,7 +33,7 @@ use Rattle.theory.proofs.Interchangeable
 use Rattle.theory.proofs.Turn.{sweep-part, sweep-cut, sweeps-toward}
 use Rattle.theory.proofs.Closure
 use Rattle.theory.proofs.Lists
-use Rattle.theory.proofs.Lists.{first-in, Boxed, Lent, masksOf-masks, domains-masksOf, domains-boxed, masksOf-domains, over-start}
+use Rattle.theory.proofs.Lists.{Boxed, Lent, masksOf-masks, domains-masksOf, domains-boxed, masksOf-domains, over-start}
 
 -- Two lists of n masks with the same values are equal.
 pub masks-ext : (n : ℕ) (l m : List ℕ) → Masks n l → Masks n m → ((j : ℕ) → j < n → (a : ℕ) → a < 16 → domains l j a ≡ domains m j a) → l ≡ m
@@ -51,7 +51,7 @@ module _ (P : Problem) where
   abbrev pub lowestOf : List ℕ → Play
   lowestOf l j = first 16 (domains l j)
 
-  pub lowest-in : (l : List ℕ) → Lent P l → (j : ℕ) → j < n → In (domains l j) (lowestOf l j)
+  lowest-in : (l : List ℕ) → Lent P l → (j : ℕ) → j < n → In (domains l j) (lowestOf l j)
   lowest-in l w j h = let v = w .full j h in first-in 16 (domains l j) (v .0) (v .1 .0) (v .1 .1)
 
   pub answers : (l : List ℕ) → Lent P l → Answers P (domains l) (lowestOf l)
@@ -154,7 +154,7 @@ module _ (P : Problem) where
       off j a e = ap (λ (D : Domains). D j a) (Lists.domains-set n l x (diff (getD l x 0) w) h k) ∙ ap (λ (d : ℕ → Bool). d a) (replace-off (domains l) x (bit (diff (getD l x 0) w)) j e)
 
   -- Rule 2 ------------------------------------------------------------------------------------------------------------------
-  pub forward-boxed : (D : Domains) → Boxed n D → (x a : ℕ) → x < n → a < 16 → Boxed n (forwardDomains P D x a)
+  forward-boxed : (D : Domains) → Boxed n D → (x a : ℕ) → x < n → a < 16 → Boxed n (forwardDomains P D x a)
   unfolding forwardDomains
   forward-boxed D b x a h k j c t = go (eqb j x) refl (ltb x j && not (universal j)) t
     where

@@ -88,7 +88,7 @@ module _ (P : Problem) (F : Domains) (foe : Play) (foe-in : Answers P F foe) whe
       (Revisions.revisions-list P s (revisions P s) (w .state .foe) (w .state .foe-in) (w .formed) (Revisions.revisions-are P s (w .formed)) (Revisions.revisions-closed P s (w .formed)))
 
   -- Rules 2, 1 and 3 of a turn.
-  pub explained-plain : (S c : ℕ) (p : List ℕ) → c ≤ length p → length p ≤ n → Plain (length p) (playOf p) (explained P S c p)
+  explained-plain : (S c : ℕ) (p : List ℕ) → c ≤ length p → length p ≤ n → Plain (length p) (playOf p) (explained P S c p)
       (andNext (ifSo (uses S 2) (checks P (length p - c) c p)) (andNext (ifSo (uses S 1) (arc P)) (ifSo (ltb (length p) n && uses S 3) (ahead P (length p)))))
   unfolding explained
   explained-plain S c p h l =

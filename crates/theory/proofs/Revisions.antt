@@ -10,7 +10,7 @@ use lib.Dec.{T, T-not, not-T, eqb, eqb→eq, eqb-refl, ltb}
 use lib.Bits.{bitOr}
 use lib.ListN.{getD, length, set, length-set}
 use lib.Seq.{ext-getD}
-use borrow.Author.Tests.{ltb-true, eq-eqb, ne-eqb}
+use borrow.Author.Tests.{ltb-true, ne-eqb}
 use Rattle.mask.specs.Range.{some}
 use Rattle.mask.specs.Mask.{bit, maskOf}
 use Rattle.mask.proofs.Logic.{same, fails, clash, test, by-eq, and-in, and-out}
@@ -150,19 +150,7 @@ module _ (P : Problem) where
   unfolding revisions
   revisions-are s w = passes-are (16 * n) s s w none
 
-  -- For a list of work that revisits only neighbours of what changed: a revision that removes nothing changes nothing, and what dies because
-  -- of k depends on the domain of k alone.
-  pub revise-still : (x k : ℕ) (s : Sheet) → surviving P (s .list) x k ≡ getD (s .list) x 0 → revise P x k s ≡ s
-  unfolding revise
-  revise-still x k s e =
-      let z : (not (universal x) && (constrained x k && not (eqb (surviving P (s .list) x k) (getD (s .list) x 0)))) ≡ false =
-      rw (eq-eqb (surviving P (s .list) x k) (getD (s .list) x 0) e) (off (not (universal x)) (constrained x k)) in rw z
-    where
-      off : (a b : Bool) → (a && (b && false)) ≡ false
-      off true true = refl
-      off true false = refl
-      off false b = refl
-
+  -- What dies because of k depends on the domain of k alone.
   pub kills-local : (D E : Domains) (x a k : ℕ) → D k ≡ E k → kills P D x a k ≡ kills P E x a k
   unfolding kills clashes alone
   kills-local D E x a k e = rw e

@@ -14,7 +14,7 @@ use Rattle.game.specs.Lists.{domains}
 use Rattle.game.specs.Rule.{uses}
 use Rattle.game.specs.Turn.{nextList}
 use Rattle.game.specs.Reasons.{nextReasons, Step, explained}
-use Rattle.game.specs.Search.{Verdict, solved, failed, is-solved, or-else, and-also, handUp, someValue, untried, eachValue, leaf, skippable, narrowNext, startSet, search}
+use Rattle.game.specs.Search.{Ending, solved, failed, is-solved, or-else, and-also, handUp, someValue, untried, eachValue, leaf, skippable, narrowNext, startSet, search}
 use Rattle.game.specs.Turns.{turnBelow}
 use Rattle.theory.specs.OtherSets.{Others}
 use Rattle.theory.proofs.TurnLists.{snoc-length}
@@ -27,19 +27,19 @@ use Rattle.theory.proofs.Turns.{At, inner, search-next}
 not-both : {A : Type 0} (S : ℕ) (q : List ℕ) → failed S ≡ solved q → A
 not-both S q e = absurd (let z : _≡_ {A = ℕ} 0 1 = cc in omega arith)
 
-one-leaf : (r : Verdict) (q q' : List ℕ) → r ≡ solved q → r ≡ solved q' → q ≡ q'
+one-leaf : (r : Ending) (q q' : List ℕ) → r ≡ solved q → r ≡ solved q' → q ≡ q'
 one-leaf r q q' e e' = cc
 
-handUp-out : (jump : Bool) (i : ℕ) (r : Verdict) (q : List ℕ) → handUp jump i r ≡ solved q → r ≡ solved q
+handUp-out : (jump : Bool) (i : ℕ) (r : Ending) (q : List ℕ) → handUp jump i r ≡ solved q → r ≡ solved q
 unfolding handUp
 handUp-out jump i (solved r) q e = e
 handUp-out jump i (failed S) q e = not-both _ q e
 
-handUp-in : (jump : Bool) (i : ℕ) (r : Verdict) (q : List ℕ) → r ≡ solved q → handUp jump i r ≡ solved q
+handUp-in : (jump : Bool) (i : ℕ) (r : Ending) (q : List ℕ) → r ≡ solved q → handUp jump i r ≡ solved q
 unfolding handUp
 handUp-in jump i r q e = rw e
 
-leaf-of : (r : Verdict) → is-solved r ≡ true → (q : List ℕ) × (r ≡ solved q)
+leaf-of : (r : Ending) → is-solved r ≡ true → (q : List ℕ) × (r ≡ solved q)
 leaf-of (solved q) e = (q, refl)
 leaf-of (failed S) e = absurd (clash (sym e) tt)
 
@@ -48,17 +48,17 @@ unfolding domains
 in-domain l i a t = t
 
 -- At the values of d, g answers each leaf that f answers.
-abbrev Follows : ℕ → (ℕ → Verdict) → (ℕ → Verdict) → Type 0
+abbrev Follows : ℕ → (ℕ → Ending) → (ℕ → Ending) → Type 0
 Follows d f g = (a : ℕ) → a < 16 → T (bit d a) → (q : List ℕ) → f a ≡ solved q → g a ≡ solved q
 
 -- The universal turn.
-each-follows : (skips : List ℕ → ℕ → Bool) (f g : ℕ → Verdict) (d v a u : ℕ) (q₀ q : List ℕ) → v + a ≡ 16 → ((b : ℕ) → b < 16 → T (bit u b) → T (bit d b)) → Follows d f g
+each-follows : (skips : List ℕ → ℕ → Bool) (f g : ℕ → Ending) (d v a u : ℕ) (q₀ q : List ℕ) → v + a ≡ 16 → ((b : ℕ) → b < 16 → T (bit u b) → T (bit d b)) → Follows d f g
     → eachValue skips f v a u q₀ ≡ solved q → eachValue skips g v a u q₀ ≡ solved q
 unfolding eachValue
 each-follows skips f g d zero a u q₀ q z sub h e = e
 each-follows skips f g d (suc v) a u q₀ q z sub h e = go (bit u a) refl (f a) refl e (each-follows skips f g d v (suc a))
   where
-    go : (b : Bool) → bit u a ≡ b → (r : Verdict) → f a ≡ r → cond b (and-also r (λ r. eachValue skips f v (suc a) (untried (skips r) a u) r)) (eachValue skips f v (suc a) u q₀) ≡ solved q
+    go : (b : Bool) → bit u a ≡ b → (r : Ending) → f a ≡ r → cond b (and-also r (λ r. eachValue skips f v (suc a) (untried (skips r) a u) r)) (eachValue skips f v (suc a) u q₀) ≡ solved q
         → ((u : ℕ) (q₀ q : List ℕ) → v + suc a ≡ 16 → ((b : ℕ) → b < 16 → T (bit u b) → T (bit d b)) → Follows d f g → eachValue skips f v (suc a) u q₀ ≡ solved q → eachValue skips g v (suc a) u q₀ ≡ solved q)
         → cond b (and-also (g a) (λ r. eachValue skips g v (suc a) (untried (skips r) a u) r)) (eachValue skips g v (suc a) u q₀) ≡ solved q
     go false m r re e ih = ih u q₀ q (omega arith) sub h e
@@ -68,7 +68,7 @@ each-follows skips f g d (suc v) a u q₀ q z sub h e = go (bit u a) refl (f a) 
         (ih (untried (skips r) a u) r q (omega arith) (λ b l t. sub b l (Values.untried-sub (skips r) a u b l t)) h e)
 
 -- The existential turn: with or without rule 6 the leaf is that of the first value that wins.
-some-follows : (jump : Bool) (i d : ℕ) (f g : ℕ → Verdict) (v a J K : ℕ) (q : List ℕ) → v + a ≡ 16 → Follows d f g → Follows d g f
+some-follows : (jump : Bool) (i d : ℕ) (f g : ℕ → Ending) (v a J K : ℕ) (q : List ℕ) → v + a ≡ 16 → Follows d f g → Follows d g f
     → someValue jump i d f v a J ≡ solved q → someValue false i d g v a K ≡ solved q
 unfolding someValue
 some-follows jump i d f g zero a J K q z h k e = not-both J q e
@@ -77,14 +77,14 @@ some-follows jump i d f g (suc v) a J K q z h k e = go (bit d a) refl (f a) refl
     Rest : Type 0
     Rest = (J K : ℕ) → someValue jump i d f v (suc a) J ≡ solved q → someValue false i d g v (suc a) K ≡ solved q
 
-    go : (b : Bool) → bit d a ≡ b → (r : Verdict) → f a ≡ r
+    go : (b : Bool) → bit d a ≡ b → (r : Ending) → f a ≡ r
         → cond b (or-else r (λ S. cond (jump && not (bit S i)) (failed S) (someValue jump i d f v (suc a) (bitOr J S)))) (someValue jump i d f v (suc a) J) ≡ solved q → Rest
         → cond b (or-else (g a) (λ S. someValue false i d g v (suc a) (bitOr K S))) (someValue false i d g v (suc a) K) ≡ solved q
     go false m r re e ih = ih J K e
     go true m (solved r) re e ih = rw (h a (omega arith) (rw m tt) r re) e
     go true m (failed S) re e ih = lose (g a) refl
       where
-        lose : (r : Verdict) → g a ≡ r → or-else r (λ S. someValue false i d g v (suc a) (bitOr K S)) ≡ solved q
+        lose : (r : Ending) → g a ≡ r → or-else r (λ S. someValue false i d g v (suc a) (bitOr K S)) ≡ solved q
         lose (solved r) ge = not-both S r (sym re ∙ k a (omega arith) (rw m tt) r ge)
         lose (failed U) ge = goes-on (jump && not (bit S i)) e
           where
@@ -104,7 +104,7 @@ module _ (P : Problem) where
   same-narrow S U i l h = rw (h 4 (omega arith) (omega arith), h 5 (omega arith) (omega arith))
 
   -- The leaf of a turn from those of the turns below.
-  inner-follows : (S U : ℕ) (p : List ℕ) (o : Step) (m : List ℕ) (f g : ℕ → Verdict) (q r : List ℕ) → uses S 7 ≡ uses U 7
+  inner-follows : (S U : ℕ) (p : List ℕ) (o : Step) (m : List ℕ) (f g : ℕ → Ending) (q r : List ℕ) → uses S 7 ≡ uses U 7
       → (o .loss ≡ false → Follows (getD m (length p) 0) f g × Follows (getD m (length p) 0) g f) → inner P U p o m g ≡ solved r → inner P S p o m f ≡ solved q → inner P U p o m g ≡ solved q
   unfolding inner
   inner-follows S U p o m f g q r seven h = go (o .loss) refl (universal (length p))
@@ -148,10 +148,10 @@ module _ (P : Problem) where
       d : ℕ
       d = getD m i 0
 
-      f : ℕ → Verdict
+      f : ℕ → Ending
       f = turnBelow P S k p m (o .why)
 
-      g : ℕ → Verdict
+      g : ℕ → Ending
       g = turnBelow P U k p m (o .why)
 
       on-S : search P S c (suc k) p l R ≡ handUp (uses S 6) i (inner P S p o m f)

@@ -23,7 +23,7 @@ use Rattle.game.specs.Position.{playOf, legal, position, placed}
 use Rattle.game.specs.Rule.{uses}
 use Rattle.game.specs.Turn.{firstList, nextList}
 use Rattle.game.specs.Reasons.{firstReasons, nextReasons, Step, explained}
-use Rattle.game.specs.Search.{Verdict, solved, failed, someValue, eachValue, leaf, skippable, narrowNext, startSet, search}
+use Rattle.game.specs.Search.{Ending, solved, failed, someValue, eachValue, leaf, skippable, narrowNext, startSet, search}
 use Rattle.theory.proofs.Transfer
 use Rattle.theory.proofs.Transfer.{In, Inside}
 use Rattle.theory.proofs.Swap.{start}
@@ -138,7 +138,7 @@ module _ (P : Problem) where
       state-after = trims .sound .state (trims .calm)
 
       -- All rules of the turn keep the verdict.
-      pub after-law : start P (domains l) ≡ start P (domains (after S c p l R))
+      after-law : start P (domains l) ≡ start P (domains (after S c p l R))
       after-law =
           let l1 : start P (domains l) ≡ start P (domains (o .list)) = rw calm at (just .verdict .law) in
           let l2 : start P (domains (o .list)) ≡ start P (domains e) = rw (trims .calm) at (trims .sound .law) in l1 ∙ l2
@@ -218,7 +218,7 @@ module _ (P : Problem) where
       won q t lf = (rw after-law t, lf .0, (λ j h. (lf .1 j h .0, after-sub j (playOf q j) (lf .1 j h .0) (lf .1 j h .1))), lf .2, lf .3)
 
       -- The loop over the values, given that the turns below are fine.
-      turn-fine : (f : ℕ → Verdict) → ((a : ℕ) → In (domains e i) a → Fine P F (narrow (domains e) i a) (suc i) (put (playOf p) i a) (f a)) → (b : Bool) → universal i ≡ b
+      turn-fine : (f : ℕ → Ending) → ((a : ℕ) → In (domains e i) a → Fine P F (narrow (domains e) i a) (suc i) (put (playOf p) i a) (f a)) → (b : Bool) → universal i ≡ b
           → Fine P F (domains l) i (playOf p) (cond b (eachValue (λ q a. uses S 7 && skippable P e i q a) f 16 0 (getD e i 0) p) (someValue (uses S 6) i (getD e i 0) f 16 0 (startSet P (o .why) (o .list) e i)))
       unfolding domains
       turn-fine f fine true d =
@@ -256,7 +256,7 @@ module _ (P : Problem) where
       e : List ℕ
       e = after S c p l R
 
-      f : ℕ → Verdict
+      f : ℕ → Ending
       f a = search P S i k (p ++ (a ∷ [])) (nextList P e i a) (nextReasons (o .why) i)
 
       go : (b : Bool) → explained P S c p l R .loss ≡ b

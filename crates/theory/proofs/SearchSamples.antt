@@ -26,7 +26,7 @@ use Rattle.game.specs.Pure.{lowest, isPure, purged, purge}
 use Rattle.game.specs.Interchangeable.{interchange, representatives, interchangeable, represent}
 use Rattle.game.specs.Turn.{firstList, nextList, checks, ahead, narrowPure, narrowInterchangeable, nextRules, reached}
 use Rattle.game.specs.Reasons.{firstReasons, nextReasons, idle, chain, choose, loop, Sheet, neighbours, forwardConflict, forwardReasons, explainForward, explainChecks, kills, cause, surviving, revise, pass, sameDomains, passes, revisions, emptied, against, arcConflict, explainArc, explainAhead, explained}
-use Rattle.game.specs.Search.{Verdict, solved, failed, is-solved, handed, handUp, someValue, untried, eachValue, broken, firstBroken, leaf, solid, around, skippable, narrowNext, startSet, search, searchFrom, markedValues}
+use Rattle.game.specs.Search.{Ending, solved, failed, is-solved, handed, handUp, someValue, untried, eachValue, broken, firstBroken, leaf, solid, around, skippable, narrowNext, startSet, search, searchFrom, markedValues}
 use Rattle.game.specs.Turns.{TurnOf, first, below}
 use Rattle.game.specs.Skipping.{skippingTurn}
 use Rattle.theory.specs.OtherSets.{Others}
@@ -92,7 +92,7 @@ along : Problem → ℕ → List ℕ → Place → Place
 along P S [] w = w
 along P S (a ∷ p) w = along P S p (onward P S a w)
 
-answerAt : Problem → ℕ → List ℕ → Verdict
+answerAt : Problem → ℕ → List ℕ → Ending
 answerAt P S p =
     let w = along P S p (record { c = 0; plays = []; list = firstList P []; why = firstReasons (P .n) 0 }) in
     search P S (w .c) (P .n - length p) (w .plays) (w .list) (w .why)

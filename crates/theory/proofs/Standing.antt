@@ -10,7 +10,7 @@ use lib.Seq.{getD-append-seam}
 use lib.Count.{ones}
 use Rattle.mask.specs.Range.{some, each, count}
 use Rattle.mask.specs.Mask.{bit, maskOf}
-use Rattle.mask.proofs.Logic.{same, holds, clash, test, by-eq, and-in, and-out}
+use Rattle.mask.proofs.Logic.{same, holds, clash, test, by-eq, and-in, and-out, and-keep}
 use Rattle.mask.proofs.Range.{each-out, each-in, some-out, some-in}
 use Rattle.mask.proofs.Bits.{bit-of-zero, bit-ext, ones-count}
 use Rattle.mask.proofs.Masks.{maskOf-lt, bit-maskOf}
@@ -28,11 +28,11 @@ use Rattle.theory.proofs.Transfer.{Inside, turn-cong}
 use Rattle.theory.proofs.Swap.{start}
 use Rattle.theory.proofs.Laws
 use Rattle.theory.proofs.Lists
-use Rattle.theory.proofs.Lists.{some-value, over-start, file-masks}
-use Rattle.theory.proofs.TurnLists.{at-lent, at-state, first-list, legal-out, legal-in, snoc-length, narrowed-above}
+use Rattle.theory.proofs.Lists.{some-value, over-start, file-masks, narrowed-unplayed}
+use Rattle.theory.proofs.TurnLists.{at-lent, at-state, first-list, legal-out, legal-in, snoc-length}
 
 -- One more play narrows one more variable.
-pub narrowed-snoc : (l p : List ℕ) (a : ℕ) → length p < length l → narrowed l (p ++ (a ∷ [])) ≡ set (narrowed l p) (length p) (2 ^ a)
+narrowed-snoc : (l p : List ℕ) (a : ℕ) → length p < length l → narrowed l (p ++ (a ∷ [])) ≡ set (narrowed l p) (length p) (2 ^ a)
 unfolding narrowed
 narrowed-snoc [] p a h = absurd (omega arith)
 narrowed-snoc (m ∷ l) [] a h = refl
@@ -140,7 +140,7 @@ module _ (P : Problem) where
 
       next-domain : domains (position P p) (length p) ≡ domains domain (length p)
       unfolding position domains
-      next-domain = fun-ext λ a. rw (narrowed-above P domain p (length p) (omega arith))
+      next-domain = fun-ext λ a. rw (narrowed-unplayed domain p (length p) (omega arith))
 
       -- A turn: some value of an existential variable leads to a win, every value of a universal one does.
       pub verdict-next : verdict P p ≡ turn (universal (length p)) (domains domain (length p)) (λ a. verdict P (p ++ (a ∷ [])))
@@ -178,7 +178,7 @@ module _ (P : Problem) where
     unfolding turn winningValues domains
     winning-universal s =
         verdict-next p t h ∙ rw s (same (each 16 d wins-with) (eqb m w)
-        (λ u. rw (bit-ext 16 m w (maskOf-lt 16 (λ a. d a && wins-with a)) (P .bounded (length p)) (λ k l. bit-maskOf 16 (λ a. d a && wins-with a) k l ∙ keep (d k) (wins-with k) (each-out 16 d wins-with u k l))) (eqb-refl w))
+        (λ u. rw (bit-ext 16 m w (maskOf-lt 16 (λ a. d a && wins-with a)) (P .bounded (length p)) (λ k l. bit-maskOf 16 (λ a. d a && wins-with a) k l ∙ and-keep (d k) (wins-with k) (each-out 16 d wins-with u k l))) (eqb-refl w))
         (λ u. each-in 16 d wins-with λ a l v. let b : T (bit m a) = rw (eqb→eq m w u) v in and-out (d a) (wins-with a) (rw (bit-maskOf 16 (λ a. d a && wins-with a) a l) at b) .1))
       where
         d : ℕ → Bool
@@ -189,11 +189,6 @@ module _ (P : Problem) where
 
         m : ℕ
         m = maskOf 16 (λ a. bit (getD domain (length p) 0) a && wins-with a)
-
-        keep : (x y : Bool) → (T x → T y) → (x && y) ≡ x
-        keep true true f = refl
-        keep true false f = absurd (f tt)
-        keep false y f = refl
 
   -- The count of open values is the number of ones of their mask.
   pub open-count : (p : List ℕ) (j : ℕ) → j < n → getD (openCounts P p) j 0 ≡ ones (getD (openValues P p) j 0)

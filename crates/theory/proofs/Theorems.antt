@@ -3,7 +3,7 @@
 -- mask"), p any plays, S any rule set. The laws that all of them rest on are transfer, monotone, prune and outcome in Transfer, narrowing and
 -- pruning in Laws. What the statements speak of stands in game/specs and theory/specs.
 use mathlib.Core.Path.{_≡_, ap, _∙_, refl, sym, fun-ext}
-use mathlib.Core.Bool.{true, false, not, _&&_, Bool, cond}
+use mathlib.Core.Bool.{true, false, not, _&&_, cond, and-false}
 use mathlib.Core.List.{List, [], _∷_, _++_}
 use Prim.Native.Nat.{ℕ, _≤_, _<_, suc, _+_, _-_, _^_}
 use native.Mathlib.Omega.{arith}
@@ -31,7 +31,7 @@ use Rattle.game.specs.Pure.{pure, purge}
 use Rattle.game.specs.Interchangeable.{interchangeable, represent}
 use Rattle.game.specs.Turn.{firstList, nextList, reached}
 use Rattle.game.specs.Reasons.{Sheet, idle, chain, choose, explainChecks, arcConflict, explained}
-use Rattle.game.specs.Search.{Verdict, solved, failed, is-solved, handed, handUp, firstBroken, skippable, narrowNext, search, searchFrom, markedValues}
+use Rattle.game.specs.Search.{Ending, solved, failed, is-solved, handed, handUp, firstBroken, skippable, narrowNext, search, searchFrom, markedValues}
 use Rattle.game.specs.Turns.{TurnOf, first as from-position, turnBelow}
 use Rattle.game.specs.Skipping.{skippingTurn}
 use Rattle.theory.specs.TurnList.{AtTurn}
@@ -215,13 +215,13 @@ module _ (P : Problem) where
     abbrev pub i : ℕ
     i = length p
 
-    abbrev pub answer : Verdict
+    abbrev pub answer : Ending
     answer = search P S c (n - length p) p l R
 
     abbrev pub list : List ℕ
     list = reached P S c p l .list
 
-    abbrev pub below : ℕ → ℕ → Verdict
+    abbrev pub below : ℕ → ℕ → Ending
     below k a = turnBelow P S k p (reached P S c p l .list) (explained P S c p l R .why) a
 
     -- Its plays are a position; its list may be lent and has each played variable narrowed.
@@ -325,11 +325,7 @@ module _ (P : Problem) where
   -- "Rule set 0 is the plain game": no rule runs, no value is left out.
   pub search-0 : (c i : ℕ) (p l R : List ℕ) → (explained P 0 c p l R ≡ idle l R) × (narrowNext P 0 i l ≡ unruled l)
   unfolding uses bit explained narrowNext chain choose idle unruled ifSo andNext
-  search-0 c i p l R = (let e : (ltb (length p) n && false) ≡ false = off (ltb (length p) n) in rw e, refl)
-    where
-      off : (b : Bool) → (b && false) ≡ false
-      off true = refl
-      off false = refl
+  search-0 c i p l R = (let e : (ltb (length p) n && false) ≡ false = and-false (ltb (length p) n) in rw e, refl)
 
   -- "A marking searches for each option by itself": the marks are the winning values.
   pub marks-are : (S : ℕ) (p : List ℕ) → T (legal P p) → length p < n → markedValues P S p ≡ winningValues P p

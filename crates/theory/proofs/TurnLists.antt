@@ -33,7 +33,7 @@ use Rattle.theory.proofs.Interchangeable
 use Rattle.theory.proofs.Sound.{Outcome, Rule, skip, after, andThen, State, Sound}
 use Rattle.theory.proofs.Turn
 use Rattle.theory.proofs.Lists
-use Rattle.theory.proofs.Lists.{Lent, lent-out, lent-in, domains-boxed, over-start, file-lent, file-masks}
+use Rattle.theory.proofs.Lists.{Lent, lent-out, lent-in, domains-boxed, over-start, file-lent, file-masks, length-narrowed, narrowed-played, narrowed-unplayed}
 use Rattle.theory.proofs.OnLists
 use Rattle.theory.proofs.OnLists.{lowestOf, answers}
 
@@ -198,7 +198,7 @@ module _ (P : Problem) where
   unfolding narrowInterchangeable Turn.represent
   represent-agrees i h l w = (refl, OnLists.represent-masks P i l h w, OnLists.domains-represent P i l h w)
 
-  pub reached-agrees : (set c : ℕ) (p : List ℕ) → length p ≤ n → ((j : ℕ) → j < length p → getD p j 0 < 16) → Agrees (reached P set c p) (Turn.turn-rules P set c (length p) (playOf p))
+  reached-agrees : (set c : ℕ) (p : List ℕ) → length p ≤ n → ((j : ℕ) → j < length p → getD p j 0 < 16) → Agrees (reached P set c p) (Turn.turn-rules P set c (length p) (playOf p))
   unfolding reached Turn.turn-rules nextRules
   reached-agrees set c p h f =
       next-agrees (ifSo (uses set 2) (checks P (length p - c) c p)) (andNext (ifSo (uses set 1) (arc P)) (ifSo (ltb (length p) n) (nextRules P set (length p))))
@@ -229,13 +229,13 @@ module _ (P : Problem) where
   pub at-lent : (p l : List ℕ) → AtTurn P p l → Lent P l
   at-lent p l w = lent-out P l (w .may)
 
-  pub played-in : (p l : List ℕ) → AtTurn P p l → (j : ℕ) → j < length p → In (domains l j) (playOf p j)
+  played-in : (p l : List ℕ) → AtTurn P p l → (j : ℕ) → j < length p → In (domains l j) (playOf p j)
   unfolding domains playOf
   played-in p l w j h =
       let t : T (bit (getD l j 0) (getD p j 0)) = rw (w .played j h, bit-single (getD p j 0) (getD p j 0)) (eqb-refl (getD p j 0)) in
       (domains-boxed n l (at-lent p l w .masks) j (getD p j 0) t .1, t)
 
-  pub played-only : (p l : List ℕ) → AtTurn P p l → (j : ℕ) → j < length p → (a : ℕ) → In (domains l j) a → a ≡ playOf p j
+  played-only : (p l : List ℕ) → AtTurn P p l → (j : ℕ) → j < length p → (a : ℕ) → In (domains l j) a → a ≡ playOf p j
   unfolding domains playOf
   played-only p l w j h a m = eqb→eq a (getD p j 0) (rw (w .played j h, bit-single (getD p j 0) a) at (m .1))
 
@@ -299,26 +299,6 @@ module _ (P : Problem) where
       }
 
   -- The first turn's list -----------------------------------------------------------------------------------------------------
-  narrowed-length : (l p : List ℕ) → length (narrowed l p) ≡ length l
-  unfolding narrowed
-  narrowed-length l [] = refl
-  narrowed-length [] (a ∷ p) = refl
-  narrowed-length (m ∷ l) (a ∷ p) = ap suc (narrowed-length l p)
-
-  narrowed-below : (l p : List ℕ) (j : ℕ) → length p ≤ length l → j < length p → getD (narrowed l p) j 0 ≡ 2 ^ getD p j 0
-  unfolding narrowed
-  narrowed-below l [] j h k = absurd (omega arith)
-  narrowed-below [] (a ∷ p) j h k = absurd (omega arith)
-  narrowed-below (m ∷ l) (a ∷ p) zero h k = refl
-  narrowed-below (m ∷ l) (a ∷ p) (suc j) h k = narrowed-below l p j (omega arith) (omega arith)
-
-  pub narrowed-above : (l p : List ℕ) (j : ℕ) → length p ≤ j → getD (narrowed l p) j 0 ≡ getD l j 0
-  unfolding narrowed
-  narrowed-above l [] j h = refl
-  narrowed-above [] (a ∷ p) j h = refl
-  narrowed-above (m ∷ l) (a ∷ p) zero h = absurd (omega arith)
-  narrowed-above (m ∷ l) (a ∷ p) (suc j) h = narrowed-above l p j (omega arith)
-
   -- What the test says of a position, and what shows it.
   pub legal-out : (p : List ℕ) → T (legal P p) → (length p ≤ n) × ((j : ℕ) → j < length p → T (domains domain j (getD p j 0)))
   unfolding legal
@@ -338,15 +318,15 @@ module _ (P : Problem) where
   first-list p t = record {
     may = lent-in P (narrowed domain p) (record {
       masks = record {
-        size = narrowed-length domain p ∙ P .sized;
-        small = λ i. by-lt i (length p) (λ h. rw (below i h) (pow-lt (value i h .1))) (λ h. rw (narrowed-above domain p i h) (P .bounded i));
+        size = length-narrowed domain p ∙ P .sized;
+        small = λ i. by-lt i (length p) (λ h. rw (below i h) (pow-lt (value i h .1))) (λ h. rw (narrowed-unplayed domain p i h) (P .bounded i));
       };
       full = λ i h. by-lt i (length p)
           (λ k. (getD p i 0, (value i k .1, rw (below i k, bit-single (getD p i 0) (getD p i 0)) (eqb-refl (getD p i 0)))))
-          (λ k. let v = file-lent P .full i h in (v .0, (v .1 .0, rw (narrowed-above domain p i k) (v .1 .1))));
+          (λ k. let v = file-lent P .full i h in (v .0, (v .1 .0, rw (narrowed-unplayed domain p i k) (v .1 .1))));
       within = λ i a s. by-lt i (length p)
           (λ k. rw (eqb→eq a (getD p i 0) (rw (below i k, bit-single (getD p i 0) a) at s)) (r .1 i k))
-          (λ k. rw (narrowed-above domain p i k) at s);
+          (λ k. rw (narrowed-unplayed domain p i k) at s);
     });
     depth = r .0;
     played = below;
@@ -356,7 +336,7 @@ module _ (P : Problem) where
       r = legal-out p t
 
       below : (j : ℕ) → j < length p → getD (narrowed domain p) j 0 ≡ 2 ^ getD p j 0
-      below j h = let d = r .0 in let e = P .sized in narrowed-below domain p j (omega arith) h
+      below j h = let d = r .0 in let e = P .sized in narrowed-played domain p j (omega arith) h
 
       value : (j : ℕ) → j < length p → (j < n) × (getD p j 0 < 16)
       value j h = domains-boxed n domain (file-masks P) j (getD p j 0) (r .1 j h)

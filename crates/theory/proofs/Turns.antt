@@ -22,7 +22,7 @@ use Rattle.game.specs.Turn.{firstList, nextList, reached}
 use Rattle.game.specs.Arc.{arcLoss, arc}
 use Rattle.game.specs.Removals.{NoneDead}
 use Rattle.game.specs.Reasons.{choose, explainChecks, Step, Sheet, arcConflict, firstReasons, nextReasons, explained}
-use Rattle.game.specs.Search.{Verdict, solved, failed, is-solved, or-else, handed, handUp, someValue, eachValue, firstBroken, leaf, skippable, narrowNext, startSet, search}
+use Rattle.game.specs.Search.{Ending, solved, failed, is-solved, or-else, handed, handUp, someValue, eachValue, firstBroken, leaf, skippable, narrowNext, startSet, search}
 use Rattle.game.specs.Turns.{TurnOf, first, below, turnBelow}
 use Rattle.game.specs.Skipping.{shown, skippingTurn}
 use Rattle.theory.specs.TurnList.{AtTurn}
@@ -94,7 +94,7 @@ module _ (P : Problem) where
         legal-plays = legal-snoc P p a (w .legal-plays) h (w .entry .stands .sub (length p) a b (Search.after-sub P S c p l R (w .checked) (w .entry) h e (length p) a b m));
       }
 
-  pub at-below : (S c : ℕ) (p l R : List ℕ) → At c p l R → length p < n → reached P S c p l .loss ≡ false → (a : ℕ) → T (domains (reached P S c p l .list) (length p) a)
+  at-below : (S c : ℕ) (p l R : List ℕ) → At c p l R → length p < n → reached P S c p l .loss ≡ false → (a : ℕ) → T (domains (reached P S c p l .list) (length p) a)
       → At (length p) (p ++ (a ∷ [])) (nextList P (reached P S c p l .list) (length p) a) (nextReasons (explained P S c p l R .why) (length p))
   at-below S c p l R w h e =
       subst (λ (m : List ℕ). (a : ℕ) → T (domains m (length p) a) → At (length p) (p ++ (a ∷ [])) (nextList P m (length p) a) (nextReasons (explained P S c p l R .why) (length p)))
@@ -116,11 +116,11 @@ module _ (P : Problem) where
       let s = w .ready .state in
       start-at P (domains l) (length p) (playOf p) (w .depth) (s .played) ∙ w .stands .faith (length p) (playOf p) (omega arith) (w .depth) (λ j h. s .played j h .0)
 
-  pub verdict-game : (p : List ℕ) → T (legal P p) → verdict P p ≡ at P (F P) (length p) (playOf p)
+  verdict-game : (p : List ℕ) → T (legal P p) → verdict P p ≡ at P (F P) (length p) (playOf p)
   unfolding verdict firstList
   verdict-game p t = over-start P (position P p) ∙ entry-game p (position P p) (firstReasons n (length p)) (Search.entry-first P p t)
 
-  pub entry-verdict : (c : ℕ) (p l R : List ℕ) → At c p l R → start P (domains l) ≡ verdict P p
+  entry-verdict : (c : ℕ) (p l R : List ℕ) → At c p l R → start P (domains l) ≡ verdict P p
   entry-verdict c p l R w = entry-game p l R (w .entry) ∙ sym (verdict-game p (w .legal-plays))
 
   -- A conflict set in terms of positions.
@@ -137,7 +137,7 @@ module _ (P : Problem) where
     pub answer : is-solved (search P S c k p l R) ≡ verdict P p
     answer = go (search P S c k p l R) fine
       where
-        go : (r : Verdict) → Fine P (F P) (domains l) (length p) (playOf p) r → is-solved r ≡ verdict P p
+        go : (r : Ending) → Fine P (F P) (domains l) (length p) (playOf p) r → is-solved r ≡ verdict P p
         go (solved q) h = sym (sym (entry-verdict c p l R w) ∙ holds (h .0))
         go (failed U) h = sym (fails λ t. h (playOf p) (Standing.legal-inside P p (w .legal-plays)) (λ j _ _. refl) (rw (verdict-game p (w .legal-plays)) at t))
 
@@ -156,7 +156,7 @@ module _ (P : Problem) where
     answer-set U e = let h : Fine P (F P) (domains l) (length p) (playOf p) (failed U) = rw e at fine in conflict-lost p U h
 
   -- A turn that has a variable left, of which the rules' reply o and the list e that they reach are known; f is the turn below. --------
-  unfoldable pub inner : ℕ → List ℕ → Step → List ℕ → (ℕ → Verdict) → Verdict
+  unfoldable pub inner : ℕ → List ℕ → Step → List ℕ → (ℕ → Ending) → Ending
   inner S p o e f = cond (o .loss) (failed (o .set)) (cond (universal (length p)) (eachValue (λ q a. uses S 7 && skippable P e (length p) q a) f 16 0 (getD e (length p) 0) p)
       (someValue (uses S 6) (length p) (getD e (length p) 0) f 16 0 (startSet P (o .why) (o .list) e (length p))))
 
@@ -167,12 +167,12 @@ module _ (P : Problem) where
 
   -- What a lost turn hands up ------------------------------------------------------------------------------------------------
   -- Every answer is handed up.
-  hands : (S c k : ℕ) (p l R : List ℕ) → (r : Verdict) × (search P S c k p l R ≡ handUp (uses S 6) (length p) r)
+  hands : (S c k : ℕ) (p l R : List ℕ) → (r : Ending) × (search P S c k p l R ≡ handUp (uses S 6) (length p) r)
   unfolding search
   hands S c zero p l R = (_, refl)
   hands S c (suc k) p l R = (_, refl)
 
-  handed-set : (jump : Bool) (i : ℕ) (r : Verdict) (U : ℕ) → handUp jump i r ≡ failed U → (W : ℕ) × (U ≡ handed jump i W)
+  handed-set : (jump : Bool) (i : ℕ) (r : Ending) (U : ℕ) → handUp jump i r ≡ failed U → (W : ℕ) × (U ≡ handed jump i W)
   unfolding handUp
   handed-set jump i (solved q) U e = absurd (let z : _≡_ {A = ℕ} 0 1 = cc in omega arith)
   handed-set jump i (failed W) U e = (W, let z : U ≡ handed jump i W = cc in z)
@@ -240,7 +240,7 @@ module _ (P : Problem) where
       rw (v .1) (maskOf-lt (length p) (λ j. not (uses S 6) || bit (v .0) j))
 
   -- Values before a are lost with i in their sets, a without.
-  some-jumps : (i d : ℕ) (f : ℕ → Verdict) (v b J a U : ℕ) → v + b ≡ 16 → b ≤ a → a < 16 → T (bit d a) → f a ≡ failed U → bit U i ≡ false
+  some-jumps : (i d : ℕ) (f : ℕ → Ending) (v b J a U : ℕ) → v + b ≡ 16 → b ≤ a → a < 16 → T (bit d a) → f a ≡ failed U → bit U i ≡ false
       → ((x : ℕ) → x < a → T (bit d x) → (W : ℕ) × (f x ≡ failed W) × T (bit W i)) → someValue true i d f v b J ≡ failed U
   unfolding someValue
   some-jumps i d f zero b J a U z h l m e s past = absurd (omega arith)

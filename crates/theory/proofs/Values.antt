@@ -13,14 +13,14 @@ use borrow.Author.Tests.{eq-eqb, ne-eqb}
 use Rattle.mask.specs.Range.{some, first}
 use Rattle.mask.specs.Mask.{bit, maskOf}
 use Rattle.mask.proofs.Logic.{holds, fails, clash, test, by-eq, by-lt, and-in, and-out, or-right}
-use Rattle.mask.proofs.Range.{some-out, some-in, first-least}
+use Rattle.mask.proofs.Range.{some-out, some-in, first-least, first-in}
 use Rattle.mask.proofs.Bits.{bit-single}
 use Rattle.mask.proofs.Masks.{bit-maskOf}
 use Rattle.game.specs.Problem.{Problem}
 use Rattle.game.specs.Game.{put, satisfied, narrow, Domains, Play}
 use Rattle.game.specs.Lists.{domains}
 use Rattle.game.specs.Position.{playOf}
-use Rattle.game.specs.Search.{Verdict, solved, failed, or-else, and-also, handed, handUp, someValue, untried, eachValue, broken, firstBroken, leaf, around, skippable}
+use Rattle.game.specs.Search.{Ending, solved, failed, or-else, and-also, handed, handUp, someValue, untried, eachValue, broken, firstBroken, leaf, around, skippable}
 use Rattle.game.specs.Skipping.{shown, skipping}
 use Rattle.theory.proofs.Transfer
 use Rattle.theory.proofs.Transfer.{In, Inside}
@@ -28,12 +28,11 @@ use Rattle.theory.proofs.Swap.{start}
 use Rattle.theory.proofs.Laws.{at, start-at, play}
 use Rattle.theory.proofs.Moves.{turn-in, put-off, replace-at, replace-off, satisfied-in}
 use Rattle.theory.proofs.Sound.{Outcome, State, Sound}
-use Rattle.theory.proofs.Lists.{first-in}
 use Rattle.theory.proofs.Conflict.{Conflict, conflict-more, conflict-leaf, conflict-universal, conflict-jump, solid-wins}
 use Rattle.theory.proofs.ReasonLists.{in-left, in-right}
 
 -- What is untried after a leaf.
-pub untried-is : (skips : ℕ → Bool) (a u b : ℕ) → b < 16 → bit (untried skips a u) b ≡ (ltb a b && (bit u b && not (skips b)))
+untried-is : (skips : ℕ → Bool) (a u b : ℕ) → b < 16 → bit (untried skips a u) b ≡ (ltb a b && (bit u b && not (skips b)))
 unfolding untried
 untried-is skips a u b h = bit-maskOf 16 (λ b. ltb a b && (bit u b && not (skips b))) b h
 
@@ -41,7 +40,7 @@ pub untried-sub : (skips : ℕ → Bool) (a u b : ℕ) → b < 16 → T (bit (un
 untried-sub skips a u b h t = and-out (bit u b) (not (skips b)) (and-out (ltb a b) (bit u b && not (skips b)) (rw (untried-is skips a u b h) at t) .1) .0
 
 -- The turn of the search, whose untried values are dropped after each leaf, is that turn.
-pub skipping-is : (skips : List ℕ → ℕ → Bool) (d : ℕ) (f : ℕ → Verdict) (v a u : ℕ) (ls : List (List ℕ)) (q : List ℕ) → v + a ≡ 16
+pub skipping-is : (skips : List ℕ → ℕ → Bool) (d : ℕ) (f : ℕ → Ending) (v a u : ℕ) (ls : List (List ℕ)) (q : List ℕ) → v + a ≡ 16
     → ((b : ℕ) → a ≤ b → b < 16 → bit u b ≡ (bit d b && not (shown skips ls b))) → eachValue skips f v a u q ≡ skipping skips d f v a ls q
 unfolding eachValue skipping shown
 skipping-is skips d f zero a u ls q n e = refl
@@ -57,13 +56,13 @@ skipping-is skips d f (suc v) a u ls q n e = go (bit u a) (e a (omega arith) (om
     one : (r : List ℕ) (b : ℕ) → suc a ≤ b → b < 16 → bit (untried (skips r) a u) b ≡ (bit d b && not (shown skips (r ∷ ls) b))
     one r b h l = untried-is (skips r) a u b l ∙ rw (holds {b = ltb a b} (lt→ltb a b h), e b (omega arith) l) (split (bit d b) (shown skips ls b) (skips r b))
 
-    go : (b : Bool) → b ≡ (bit d a && not (shown skips ls a)) → (r : Verdict)
+    go : (b : Bool) → b ≡ (bit d a && not (shown skips ls a)) → (r : Ending)
         → ((u : ℕ) (ls : List (List ℕ)) (q : List ℕ) → v + suc a ≡ 16 → ((b : ℕ) → suc a ≤ b → b < 16 → bit u b ≡ (bit d b && not (shown skips ls b))) → eachValue skips f v (suc a) u q ≡ skipping skips d f v (suc a) ls q)
         → cond b (and-also r (λ r. eachValue skips f v (suc a) (untried (skips r) a u) r)) (eachValue skips f v (suc a) u q)
         ≡ cond (bit d a && not (shown skips ls a)) (and-also r (λ r. skipping skips d f v (suc a) (r ∷ ls) r)) (skipping skips d f v (suc a) ls q)
     go true z r ih = rw (← z) (below r)
       where
-        below : (r : Verdict) → and-also r (λ r. eachValue skips f v (suc a) (untried (skips r) a u) r) ≡ and-also r (λ r. skipping skips d f v (suc a) (r ∷ ls) r)
+        below : (r : Ending) → and-also r (λ r. eachValue skips f v (suc a) (untried (skips r) a u) r) ≡ and-also r (λ r. skipping skips d f v (suc a) (r ∷ ls) r)
         below (solved q) = ih (untried (skips q) a u) (q ∷ ls) q (omega arith) (one q)
         below (failed S) = refl
     go false z r ih = rw (← z) (ih u ls q (omega arith) (λ b h l. e b (omega arith) l))
@@ -73,12 +72,12 @@ module _ (P : Problem) where
 
   -- What an answer means at a turn over D at the position (i, p) of the file's domains F: a won turn has a leaf inside D that extends p and
   -- breaks no constraint; a lost turn has a set such that every position with p's values there is lost.
-  abbrev pub Fine : Domains → Domains → ℕ → Play → Verdict → Type 0
+  abbrev pub Fine : Domains → Domains → ℕ → Play → Ending → Type 0
   Fine F D i p (solved q) = T (start P D) × (length q ≡ n) × Inside D n (playOf q) × ((j : ℕ) → j < i → playOf q j ≡ p j) × T (satisfied compatible n (playOf q))
   Fine F D i p (failed S) = Conflict P F (bit S) i p
 
   -- Sets may grow, so what is handed up is fine too.
-  pub handUp-fine : (jump : Bool) (F D : Domains) (i : ℕ) (p : Play) (r : Verdict) → Fine F D i p r → Fine F D i p (handUp jump i r)
+  pub handUp-fine : (jump : Bool) (F D : Domains) (i : ℕ) (p : Play) (r : Ending) → Fine F D i p r → Fine F D i p (handUp jump i r)
   unfolding handUp handed
   handUp-fine jump F D i p (solved q) h = h
   handUp-fine jump F D i p (failed S) h =
@@ -92,7 +91,7 @@ module _ (P : Problem) where
     abbrev pub Leaf : List ℕ → Type 0
     Leaf q = (length q ≡ n) × Inside (domains e) n (playOf q) × ((j : ℕ) → j < i → playOf q j ≡ p j) × T (satisfied compatible n (playOf q))
 
-    abbrev pub Child : ℕ → Verdict → Type 0
+    abbrev pub Child : ℕ → Ending → Type 0
     Child a r = Fine F (narrow (domains e) i a) (suc i) (put p i a) r
 
     pub leaf-up : (a : ℕ) → In (E i) a → (q : List ℕ) → Child a (solved q) → Leaf q
@@ -127,7 +126,7 @@ module _ (P : Problem) where
             either true u w = u
             either false u w = w
 
-    module _ (f : ℕ → Verdict) (ch : (a : ℕ) → In (domains e i) a → Child a (f a)) (Goal : Verdict → Type 0)
+    module _ (f : ℕ → Ending) (ch : (a : ℕ) → In (domains e i) a → Child a (f a)) (Goal : Ending → Type 0)
         (won : (q : List ℕ) → T (start P (domains e)) → Leaf q → Goal (solved q)) (lost : (S : ℕ) → Conflict P F (bit S) i p → Goal (failed S)) where
       universal-wins : universal i ≡ true → ((b : ℕ) → In (E i) b → T (start P (narrow E i b))) → T (start P E)
       universal-wins s h = rw (play P E i p li (sE .played), s) (turn-in true (E i) (λ a. start P (narrow E i a)) (λ b l m. h b (l, m)))
@@ -162,7 +161,7 @@ module _ (P : Problem) where
           pass-by z b m (inl l) = by-eq b a (λ k. h b m (inr (rw k z))) (λ k. h b m (inl (omega arith)))
           pass-by z b m (inr k) = h b m (inr k)
 
-          go : (m : Bool) → bit u a ≡ m → (r : Verdict) → f a ≡ r
+          go : (m : Bool) → bit u a ≡ m → (r : Ending) → f a ≡ r
               → ((u : ℕ) (q : List ℕ) → v + suc a ≡ 16 → ((b : ℕ) → b < 16 → T (bit u b) → T (E i b)) → Past (suc a) u q → Goal (eachValue skips f v (suc a) u q))
               → Goal (cond m (and-also r (λ r. eachValue skips f v (suc a) (untried (skips r) a u) r)) (eachValue skips f v (suc a) u q))
           go false me r re ih = ih u q (omega arith) sub (pass-by me)
@@ -196,7 +195,7 @@ module _ (P : Problem) where
               (λ z. conflict-more P F (bit J) (bit (bitOr J S)) (suc i) (put p i b) (λ j _ t. in-left J S j t) (h b (omega arith) m)))
               (λ j t. in-left J S j (up j t))
 
-          go : (m : Bool) → bit (getD e i 0) a ≡ m → (r : Verdict) → f a ≡ r
+          go : (m : Bool) → bit (getD e i 0) a ≡ m → (r : Ending) → f a ≡ r
               → ((J : ℕ) → v + suc a ≡ 16 → Tried (suc a) J → ((j : ℕ) → T (bit first j) → T (bit J j)) → Goal (someValue jump i (getD e i 0) f v (suc a) J))
               → Goal (cond m (or-else r (λ S. cond (jump && not (bit S i)) (failed S) (someValue jump i (getD e i 0) f v (suc a) (bitOr J S)))) (someValue jump i (getD e i 0) f v (suc a) J))
           go false me r re ih = ih J (omega arith) (λ b l m. by-eq b a (λ z. absurd (clash me (rw z at m))) (λ z. h b (omega arith) m)) up

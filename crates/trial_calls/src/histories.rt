@@ -10,7 +10,6 @@ use crate::plain::has;
 use crate::plain::open_mask;
 use crate::plain::play_refusal;
 use crate::plain::shortened;
-use crate::positions::same_position;
 use position::Position;
 use position::fresh;
 use refusal::both;
@@ -19,14 +18,14 @@ use session::Played;
 use session::open_values;
 use session::play;
 use session::take_back;
-use vectors::Tally;
-use vectors::byte;
-use vectors::counted;
-use vectors::moved;
-use vectors::none_yet;
-use vectors::part;
-use vectors::place;
-use vectors::word;
+use trial_stored::game_at;
+use trial_stored::same_position;
+use trial_vectors::Tally;
+use trial_vectors::cases_at;
+use trial_vectors::count_at;
+use trial_vectors::counted;
+use trial_vectors::moved;
+use trial_vectors::part;
 
 // The state of a random sequence.
 fn next_random(x: u64) -> u64
@@ -85,39 +84,31 @@ fn value_of(x: u64) -> usize {
     v
 }
 
-fn played(f: &[u8], h: History) -> History {
+// The history after a call that is to answer this number and lead to the plain list l.
+fn after_call(h: History, d: Played, number: usize, l: Plain) -> History {
     let x = next_random(h.random);
-    let p = h.position;
-    let l = h.plain;
-    let value = value_of(x);
-    let number = play_refusal(f, l, value);
-    let d = play(f, p, value);
-    let m = if number == 0 { added(l, value) } else { l };
-    let q = d.position;
-    let t = compared(h.tally, d, number, m);
+    let p = d.position;
+    let t = compared(h.tally, d, number, l);
     History {
         random: x,
-        position: q,
-        plain: m,
+        position: p,
+        plain: l,
         tally: t,
     }
 }
 
+fn played(f: &[u8], h: History) -> History {
+    let l = h.plain;
+    let value = value_of(next_random(h.random));
+    let number = play_refusal(f, l, value);
+    let m = if number == 0 { added(l, value) } else { l };
+    after_call(h, play(f, h.position, value), number, m)
+}
+
 fn taken_back(f: &[u8], h: History) -> History {
-    let x = next_random(h.random);
-    let p = h.position;
     let l = h.plain;
     let number = if l.count == 0 { 21 } else { 0 };
-    let d = take_back(f, p);
-    let m = shortened(l);
-    let q = d.position;
-    let t = compared(h.tally, d, number, m);
-    History {
-        random: x,
-        position: q,
-        plain: m,
-        tally: t,
-    }
+    after_call(h, take_back(f, h.position), number, shortened(l))
 }
 
 // One more call: a take-back one time in eight, and more often where the plays go down.
@@ -186,24 +177,16 @@ fn one_history(f: &[u8], seed: u64, t: Tally) -> Tally {
 }
 
 fn one_file(s: &[u8], seed: u64, t: Tally) -> Tally {
-    let at = place(t.at);
-    let length = word(s, at);
-    let f = part(s, at + 2, length);
-    let n = byte(f, 2);
-    let p = at + 2 + length;
-    let q = p + 4 + byte(s, p);
-    moved(one_history(f, seed, t), q + 3 * n)
+    let g = game_at(s, t.at);
+    let f = part(s, g.start, g.length);
+    moved(one_history(f, seed, t), g.next)
 }
 
 // A history on the file of each game that stands from `start` on.
 pub fn all_histories(s: &[u8], start: usize) -> Tally {
-    let at = place(start);
-    let count = word(s, at);
-    let mut t = moved(none_yet(), at + 2);
-    let mut k = 0;
-    while k < count {
+    let mut t = cases_at(start);
+    for k in 0..count_at(s, start) {
         t = one_file(s, k as u64, t);
-        k += 1;
     }
     t
 }

@@ -1,17 +1,19 @@
 // Open values against those that stand in the stored cases.
 ghost use Prim.Native.Nat.{_≤_, _<_};
 use crate::answers::says;
-use crate::positions::position_at;
 use refusal::both;
 use session::Opened;
 use session::open_values;
-use vectors::Tally;
-use vectors::byte;
-use vectors::counted;
-use vectors::moved;
-use vectors::part;
-use vectors::place;
-use vectors::word;
+use trial_stored::game_at;
+use trial_vectors::Tally;
+use trial_vectors::byte;
+use trial_vectors::cases_at;
+use trial_vectors::count_at;
+use trial_vectors::counted;
+use trial_vectors::moved;
+use trial_vectors::part;
+use trial_vectors::place;
+use trial_vectors::word;
 
 // The n masks at q and the n counts behind them are those replied, and zeros follow.
 pub fn shows(s: &[u8], q: usize, n: usize, o: Opened) -> bool
@@ -31,31 +33,20 @@ pub fn shows(s: &[u8], q: usize, n: usize, o: Opened) -> bool
     ok
 }
 
-// A case of the game: a file, the plays, the verdict, the marks, the open values.
 fn one_game(s: &[u8], t: Tally) -> Tally {
-    let at = place(t.at);
-    let length = word(s, at);
-    let f = part(s, at + 2, length);
-    let n = byte(f, 2);
-    let p = at + 2 + length;
-    let plays = byte(s, p);
-    let q = p + 4 + plays;
-    let o = open_values(f, position_at(s, p + 1, plays, plays));
+    let g = game_at(s, t.at);
+    let f = part(s, g.start, g.length);
+    let o = open_values(f, g.position);
     let a = o.answer;
-    let fine = says(a, 0, 0);
-    let u = counted(t, both(fine, shows(s, q, n, o)));
-    moved(u, q + 3 * n)
+    let fine = both(says(a, 0, 0), shows(s, place(g.verdict) + 3, byte(f, 2), o));
+    moved(counted(t, fine), g.next)
 }
 
-// The cases that stand from `start` on, behind their number.
+// The games that stand from `start` on, behind their number.
 pub fn all_games(s: &[u8], start: usize) -> Tally {
-    let at = place(start);
-    let count = word(s, at);
-    let mut t = moved(vectors::none_yet(), at + 2);
-    let mut k = 0;
-    while k < count {
+    let mut t = cases_at(start);
+    for _ in 0..count_at(s, start) {
         t = one_game(s, t);
-        k += 1;
     }
     t
 }

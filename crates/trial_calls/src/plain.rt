@@ -2,8 +2,8 @@
 // session: domains and constraints are looked up in the bytes of an accepted file.
 ghost use Prim.Native.Nat.{_≤_, _<_};
 use refusal::both;
-use vectors::byte;
-use vectors::word;
+use trial_vectors::byte;
+use trial_vectors::word;
 
 pub struct Plain {
     pub count: usize,

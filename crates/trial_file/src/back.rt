@@ -1,18 +1,18 @@
 // What reading and look-up show of an accepted file, handed to the writer, gives the very bytes.
 ghost use Prim.Native.Nat.{_≤_, _<_};
 use check::same;
-use file_layout::Rules;
-use pair_lookup::look_up;
-use pair_lookup::rows;
-use problem_file::Header;
-use problem_file::read;
-use problem_writer::Written;
-use problem_writer::write;
+use file_lookup::look_up;
+use file_lookup::rows;
+use file_reader::Head;
+use file_reader::Header;
+use file_reader::read;
+use file_writer::Written;
+use file_writer::write;
 use refusal::both;
-use vectors::byte;
-use vectors::part;
-use vectors::place;
-use vectors::word;
+use trial_vectors::byte;
+use trial_vectors::part;
+use trial_vectors::place;
+use trial_vectors::word;
 
 fn put(out: &mut [u16; 8928], p: usize, x: usize)
     requires { ⌜ x < 65536 ⌝ }
@@ -75,20 +75,14 @@ fn begins(buf: &[u8; 18000], k: usize, f: &[u8]) -> bool {
 }
 
 // Whether the writer, handed these numbers, writes f.
-fn written_back(
-    f: &[u8],
-    n: u8,
-    m: u16,
-    rules: Rules,
-    universal: u32,
-    domains: &[u16; 32],
-    numbers: &[u16; 8928],
-) -> bool {
+fn written_back(f: &[u8], head: Head, domains: &[u16; 32], numbers: &[u16; 8928]) -> bool {
     let mut buf = [0u8; 18000];
-    let count = m as usize;
-    let d = front(domains, n as usize);
-    let c = front(numbers, 18 * count);
-    let w = write(&mut buf, n as usize, count, rules, universal, d, c);
+    let n = head.n as usize;
+    let m = head.m as usize;
+    let rules = head.rules;
+    let d = front(domains, n);
+    let c = front(numbers, 18 * m);
+    let w = write(&mut buf, n, m, rules, head.universal, d, c);
     match w {
         Written::Length(k) => begins(&buf, k, f),
         Written::Refused(_) => false,
@@ -103,8 +97,6 @@ pub fn comes_back(f: &[u8]) -> bool {
     put_all(&mut numbers, f);
     match h {
         Header::Refused(_, _) => false,
-        Header::Accepted(n, m, rules, universal) => {
-            written_back(f, n, m, rules, universal, &domains, &numbers)
-        }
+        Header::Accepted(head) => written_back(f, head, &domains, &numbers),
     }
 }

@@ -1,10 +1,10 @@
 // The boundary rows of document 01 ("By program only"): small files made here, and what reading tells of each.
 ghost use Prim.Native.Nat.{_≤_, _<_};
 use crate::reading::agrees;
-use vectors::Tally;
-use vectors::counted;
-use vectors::none_yet;
-use vectors::part;
+use trial_vectors::Tally;
+use trial_vectors::counted;
+use trial_vectors::none_yet;
+use trial_vectors::part;
 
 fn put(buf: &mut [u8; 256], p: usize, x: u8) {
     if p < 256 {

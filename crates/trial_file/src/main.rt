@@ -5,15 +5,17 @@ mod boundary;
 mod pairs;
 mod reading;
 
-use vectors::Tally;
-use vectors::byte;
-use vectors::counted;
-use vectors::moved;
-use vectors::none_yet;
-use vectors::part;
-use vectors::place;
-use vectors::report;
-use vectors::word;
+use trial_vectors::Tally;
+use trial_vectors::byte;
+use trial_vectors::cases_at;
+use trial_vectors::count_at;
+use trial_vectors::counted;
+use trial_vectors::input;
+use trial_vectors::moved;
+use trial_vectors::part;
+use trial_vectors::place;
+use trial_vectors::report;
+use trial_vectors::word;
 
 // One file in one trial. 0 compares what reading tells; of an accepted file, 1 looks up every pair, 2 writes it back.
 fn tried(f: &[u8], trial: usize, number: usize, w: usize, t: Tally) -> Tally {
@@ -44,22 +46,17 @@ fn one_case(s: &[u8], trial: usize, t: Tally) -> Tally {
 }
 
 fn all_cases(s: &[u8], trial: usize) -> Tally {
-    let count = word(s, 0);
-    let mut t = none_yet();
-    let mut k = 0;
-    while k < count {
+    let mut t = cases_at(0);
+    for _ in 0..count_at(s, 0) {
         t = one_case(s, trial, t);
-        k += 1;
     }
     t
 }
 
 fn main() {
-    let mut room = [0u8; 524288];
-    let n = io::read_full(0, &mut room);
-    let s = &room[..n];
-    report(b"reading cases ", all_cases(s, 0));
-    report(b"pairs looked up ", all_cases(s, 1));
-    report(b"files written back ", all_cases(s, 2));
+    let s = input();
+    report(b"reading cases ", all_cases(&s, 0));
+    report(b"pairs looked up ", all_cases(&s, 1));
+    report(b"files written back ", all_cases(&s, 2));
     report(b"boundary rows ", boundary::all_rows());
 }

@@ -2,16 +2,16 @@
 // pair of the next record must be found there, any other pair must be free.
 ghost use Prim.Native.Nat.{_≤_};
 use check::same;
-use pair_lookup::Found;
-use pair_lookup::look_up;
-use pair_lookup::rows;
+use file_lookup::Found;
+use file_lookup::look_up;
+use file_lookup::rows;
 use refusal::both;
-use vectors::Tally;
-use vectors::byte;
-use vectors::counted;
-use vectors::moved;
-use vectors::part;
-use vectors::place;
+use trial_vectors::Tally;
+use trial_vectors::byte;
+use trial_vectors::counted;
+use trial_vectors::moved;
+use trial_vectors::part;
+use trial_vectors::place;
 
 // Where the variables begin: behind QP, and RS if there is one.
 fn first_variable(f: &[u8]) -> usize

@@ -1,19 +1,21 @@
 // Runs the look-up over shared cases (stdin: the number of cases, then for each a file, i, j, kind, number and place)
 // and compares what it tells and which bytes it shows.
 use check::same;
-use pair_lookup::Found;
-use pair_lookup::look_up;
-use pair_lookup::rows;
+use file_lookup::Found;
+use file_lookup::look_up;
+use file_lookup::rows;
 use refusal::both;
-use vectors::Tally;
-use vectors::byte;
-use vectors::counted;
-use vectors::moved;
-use vectors::none_yet;
-use vectors::part;
-use vectors::place;
-use vectors::report;
-use vectors::word;
+use trial_vectors::Tally;
+use trial_vectors::byte;
+use trial_vectors::cases_at;
+use trial_vectors::count_at;
+use trial_vectors::counted;
+use trial_vectors::input;
+use trial_vectors::moved;
+use trial_vectors::part;
+use trial_vectors::place;
+use trial_vectors::report;
+use trial_vectors::word;
 
 // An answer as a case has it: kind 0 for none, 1 for rows, 2 for a refusal by number, 3 for the file's refusal.
 struct Answer {
@@ -85,19 +87,15 @@ fn one_case(s: &[u8], t: Tally) -> Tally {
     )
 }
 
-fn all_cases(s: &[u8]) -> Tally {
-    let count = word(s, 0);
-    let mut t = none_yet();
-    let mut k = 0;
-    while k < count {
+fn all_lookups(s: &[u8]) -> Tally {
+    let mut t = cases_at(0);
+    for _ in 0..count_at(s, 0) {
         t = one_case(s, t);
-        k += 1;
     }
     t
 }
 
 fn main() {
-    let mut room = [0u8; 262144];
-    let n = io::read_full(0, &mut room);
-    report(b"lookup cases ", all_cases(&room[..n]));
+    let s = input();
+    report(b"lookup cases ", all_lookups(&s));
 }

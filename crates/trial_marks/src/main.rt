@@ -2,37 +2,31 @@
 // them the number of calls, then for each a file, a position, a kind of call with its argument and room, and what it answers.
 // Each game is marked under every rule set, and with one word of room too few; of the calls those that mark are made.
 ghost use Prim.Native.Nat.{_≤_};
-use judged_cases::Answer;
-use judged_cases::Call;
-use judged_cases::call_at;
-use judged_cases::game_at;
-use judged_cases::marks;
-use judged_cases::marks_under_all;
-use judged_cases::refusal_of;
-use judged_cases::refused;
-use judged_cases::values;
-use plain_game::domain;
-use vectors::Tally;
-use vectors::byte;
-use vectors::counted;
-use vectors::moved;
-use vectors::none_yet;
-use vectors::part;
-use vectors::place;
-use vectors::report;
-use vectors::word;
+use trial_judged::Answer;
+use trial_judged::all_calls;
+use trial_judged::marks;
+use trial_judged::marks_under_all;
+use trial_judged::needed;
+use trial_judged::refused;
+use trial_judged::values;
+use trial_plain_game::domain;
+use trial_stored::game_at;
+use trial_vectors::Tally;
+use trial_vectors::byte;
+use trial_vectors::cases_at;
+use trial_vectors::count_at;
+use trial_vectors::counted;
+use trial_vectors::input;
+use trial_vectors::moved;
+use trial_vectors::none_yet;
+use trial_vectors::part;
+use trial_vectors::place;
+use trial_vectors::report;
+use trial_vectors::word;
 
 struct Games {
     marked: Tally,
     short: Tally,
-}
-
-// How many words n variables need.
-fn needed(n: usize) -> usize
-    requires { ⌜ n ≤ 256 ⌝ }
-    ensures { λ r. ⌜ 128 ≤ r ⌝ }
-{
-    128 * (n + 1)
 }
 
 // What marking answers after d plays: the winning values and the domain, or 22 where all are played.
@@ -64,61 +58,21 @@ fn one_game(s: &[u8], x: Games) -> Games {
 }
 
 fn all_games(s: &[u8]) -> Games {
-    let count = word(s, 0);
     let mut x = Games {
-        marked: none_yet(),
+        marked: cases_at(0),
         short: none_yet(),
     };
-    let mut k = 0;
-    while k < count {
+    for _ in 0..count_at(s, 0) {
         x = one_game(s, x);
-        k += 1;
     }
     x
 }
 
-// What the call answers.
-fn answer(s: &[u8], c: Call) -> Answer {
-    if c.number == 0 {
-        let p = place(c.answer);
-        return values(word(s, p), word(s, p + 2));
-    }
-    refusal_of(c.number, c.place)
-}
-
-// One call where it marks.
-fn one_call(s: &[u8], t: Tally) -> Tally {
-    let c = call_at(s, t.at);
-    let next = moved(t, c.next);
-    if c.kind != 2 {
-        return next;
-    }
-    let f = part(s, c.start, c.length);
-    let a = answer(s, c);
-    let used = if c.number == 0 { needed(byte(f, 2)) } else { 0 };
-    counted(next, marks(f, c.position, c.argument, c.room, a, used))
-}
-
-// The calls that stand from `start` on, behind their number.
-fn all_calls(s: &[u8], start: usize) -> Tally {
-    let at = place(start);
-    let count = word(s, at);
-    let mut t = moved(none_yet(), at + 2);
-    let mut k = 0;
-    while k < count {
-        t = one_call(s, t);
-        k += 1;
-    }
-    t
-}
-
 fn main() {
-    let mut room = [0u8; 327680];
-    let n = io::read_full(0, &mut room);
-    let s = &room[..n];
-    let games = all_games(s);
+    let s = input();
+    let games = all_games(&s);
     let t = games.marked;
     report(b"games under all sets ", t);
     report(b"room one word short ", games.short);
-    report(b"mark calls ", all_calls(s, t.at));
+    report(b"mark calls ", all_calls(&s, t.at, 2));
 }

@@ -1,11 +1,11 @@
 // Writes the files of generated problems: 1 to 6 variables of 1 to 5 values each, any of them universal, and any pair constrained.
 ghost use Prim.Native.Nat.{_≤_, _<_};
-use plain_game::both;
-use plain_game::draw;
-use plain_game::has;
-use plain_game::put;
-use plain_game::put_mark;
-use plain_game::put_two;
+use trial_plain_game::both;
+use trial_plain_game::draw;
+use trial_plain_game::has;
+use trial_plain_game::put;
+use trial_plain_game::put_mark;
+use trial_plain_game::put_two;
 
 pub struct File {
     pub bytes: [u8; 640],

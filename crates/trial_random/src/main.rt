@@ -7,28 +7,28 @@ mod positions;
 
 use files::size;
 use files::written;
-use judged_cases::Answer;
-use judged_cases::after;
-use judged_cases::is_won;
-use judged_cases::judges;
-use judged_cases::judges_under_all;
-use judged_cases::marks_as_plain;
-use judged_cases::refused;
-use judged_cases::searched;
-use judged_cases::verdict;
-use plain_game::both;
-use plain_game::draw;
-use plain_game::hold_below;
-use plain_game::wins;
 use positions::misfit;
 use positions::plays;
-use vectors::Tally;
-use vectors::counted;
-use vectors::line;
-use vectors::none_yet;
-use vectors::one_more;
-use vectors::part;
-use vectors::report;
+use trial_judged::Answer;
+use trial_judged::after;
+use trial_judged::is_won;
+use trial_judged::judges;
+use trial_judged::judges_under_all;
+use trial_judged::marks_as_plain;
+use trial_judged::refused;
+use trial_judged::searched;
+use trial_judged::verdict;
+use trial_plain_game::both;
+use trial_plain_game::draw;
+use trial_plain_game::hold_below;
+use trial_plain_game::wins;
+use trial_vectors::Tally;
+use trial_vectors::counted;
+use trial_vectors::line;
+use trial_vectors::none_yet;
+use trial_vectors::one_if;
+use trial_vectors::part;
+use trial_vectors::report;
 
 // How many positions there were of each kind.
 struct Kinds {
@@ -47,10 +47,6 @@ struct Trial {
     short: Tally,
     misfits: Tally,
     kinds: Kinds,
-}
-
-fn one_if(x: usize, b: bool) -> usize {
-    if b { one_more(x) } else { x }
 }
 
 // A position after d plays, won or not, whose plays hold or clash, lost or not by the rules of its first turn.

@@ -1,10 +1,10 @@
 // Positions of a generated problem.
 ghost use Prim.Native.Nat.{_≤_, _<_};
-use plain_game::domain;
-use plain_game::draw;
-use plain_game::member;
-use plain_game::with;
 use position::Position;
+use trial_plain_game::domain;
+use trial_plain_game::draw;
+use trial_plain_game::member;
+use trial_plain_game::with;
 
 // Values of the first d variables, whether they clash or not.
 pub fn plays(f: &[u8], problem: usize, turn: usize, d: usize) -> usize

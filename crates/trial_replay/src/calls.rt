@@ -4,10 +4,10 @@ use crate::plays::Plays;
 use crate::plays::called;
 use crate::plays::count;
 use crate::plays::none;
-use plain_game::domain;
-use plain_game::draw;
-use plain_game::member;
-use vectors::one_more;
+use trial_plain_game::domain;
+use trial_plain_game::draw;
+use trial_plain_game::member;
+use trial_vectors::one_if;
 
 // So many of 64 calls, the plays that stand, and how many of the calls were refused.
 pub struct Calls {
@@ -34,10 +34,6 @@ fn call_of(f: &[u8], list: usize, k: usize, l: Plays) -> u8
         return v as u8;
     }
     member(domain(f, count(l)), v) as u8
-}
-
-fn one_if(x: usize, b: bool) -> usize {
-    if b { one_more(x) } else { x }
 }
 
 // List number `list` for a file of n variables.

@@ -9,29 +9,31 @@ mod replies;
 
 use calls::Calls;
 use calls::drawn;
-use judged_cases::Answer;
-use judged_cases::after;
-use judged_cases::game_at;
-use judged_cases::refused;
-use judged_cases::values;
-use plain_game::both;
-use plain_game::domain;
-use plain_game::draw;
-use plain_game::winning;
 use plays::Plays;
 use plays::count;
 use replies::Agreement;
 use replies::compared;
-use vectors::Tally;
-use vectors::byte;
-use vectors::counted;
-use vectors::line;
-use vectors::moved;
-use vectors::none_yet;
-use vectors::one_more;
-use vectors::part;
-use vectors::report;
-use vectors::word;
+use trial_judged::Answer;
+use trial_judged::after;
+use trial_judged::refused;
+use trial_judged::values;
+use trial_plain_game::both;
+use trial_plain_game::domain;
+use trial_plain_game::draw;
+use trial_plain_game::winning;
+use trial_stored::game_at;
+use trial_vectors::Tally;
+use trial_vectors::byte;
+use trial_vectors::cases_at;
+use trial_vectors::count_at;
+use trial_vectors::counted;
+use trial_vectors::input;
+use trial_vectors::line;
+use trial_vectors::moved;
+use trial_vectors::none_yet;
+use trial_vectors::one_if;
+use trial_vectors::part;
+use trial_vectors::report;
 
 // How many calls there were and how many of them were refused, and how many replays answered 8, 22, 12.
 struct Kinds {
@@ -73,10 +75,6 @@ fn plus(x: usize, y: usize) -> usize {
         }
     }
     x
-}
-
-fn one_if(x: usize, b: bool) -> usize {
-    if b { one_more(x) } else { x }
 }
 
 fn refused_by(a: Answer, number: usize) -> bool {
@@ -155,9 +153,8 @@ fn next_file(x: Trial, at: usize) -> Trial {
 }
 
 fn all_files(s: &[u8]) -> Trial {
-    let count = word(s, 0);
     let mut x = Trial {
-        plain: none_yet(),
+        plain: cases_at(0),
         marks: none_yet(),
         opened: none_yet(),
         kinds: Kinds {
@@ -168,10 +165,8 @@ fn all_files(s: &[u8]) -> Trial {
             short: 0,
         },
     };
-    let mut k = 0;
-    while k < count {
+    for k in 0..count_at(s, 0) {
         x = one_file(s, k % 4096, x);
-        k += 1;
     }
     x
 }
@@ -185,10 +180,8 @@ fn tell_kinds(k: Kinds) {
 }
 
 fn main() {
-    let mut room = [0u8; 327680];
-    let n = io::read_full(0, &mut room);
-    let s = &room[..n];
-    let x = all_files(s);
+    let s = input();
+    let x = all_files(&s);
     tell_kinds(x.kinds);
     report(b"marks by the plain solver ", x.plain);
     report(b"marks at the plays that stand ", x.marks);

@@ -1,10 +1,10 @@
 // The plain list of the plays that stand, of at most 8 variables, fed by a file and calls alone.
 ghost use Prim.Native.Nat.{_≤_};
-use plain_game::both;
-use plain_game::domain;
-use plain_game::has;
-use plain_game::picked;
-use plain_game::with;
+use trial_plain_game::both;
+use trial_plain_game::domain;
+use trial_plain_game::has;
+use trial_plain_game::picked;
+use trial_plain_game::with;
 
 // How many plays stand, and their values as the plain solver holds them.
 pub struct Plays {

@@ -3,18 +3,18 @@ ghost use Prim.Native.Nat.{_≤_};
 ghost use lib.ListN.{length};
 use history::Replayed;
 use history::replay;
-use judged_cases::Answer;
-use judged_cases::left;
-use judged_cases::marks;
-use judged_cases::refused;
-use judged_cases::refused_at;
-use judged_cases::same;
-use judged_cases::told_marks;
-use judged_cases::values;
 use position::Position;
 use refusal::both;
 use session::Opened;
 use session::open_values;
+use trial_judged::Answer;
+use trial_judged::left;
+use trial_judged::marks;
+use trial_judged::refused;
+use trial_judged::refused_at;
+use trial_judged::same;
+use trial_judged::told_marks;
+use trial_judged::values;
 
 fn replayed_on(f: &[u8], calls: &[u8], set: usize, room: &mut [u16], k: usize) -> Replayed
     requires { ⌜ k ≤ length (now room) ⌝ }

@@ -1,7 +1,7 @@
 // What the five calls answer, as numbers: kind 0 is a reply, 1 a refusal by number, 2 a file's refusal with its place.
 use refusal::both;
-use rules::Ruled;
-use rules::Values;
+use rule_entries::Ruled;
+use rule_entries::Values;
 
 pub struct Answer {
     pub kind: usize,

@@ -4,11 +4,11 @@ ghost use lib.ListN.{length};
 use crate::answers::Answer;
 use crate::answers::ruled;
 use crate::answers::values;
-use rules::arc;
-use rules::forward_check;
-use rules::interchangeable;
-use rules::look_ahead;
-use rules::pure;
+use rule_entries::arc;
+use rule_entries::forward_check;
+use rule_entries::interchangeable;
+use rule_entries::look_ahead;
+use rule_entries::pure;
 
 // The rules that rewrite the list.
 fn rewritten(rule: usize, f: &[u8], list: &mut [u16], x: usize, a: usize) -> Answer {

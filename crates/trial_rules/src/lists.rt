@@ -1,7 +1,7 @@
 // Lists of at most 32 masks.
 ghost use Prim.Native.Nat.{_≤_, _<_};
 use refusal::both;
-use vectors::word;
+use trial_vectors::word;
 
 // The first n words of s from p on, and zero behind them.
 pub fn masks(s: &[u8], p: usize, n: usize) -> [u16; 32]

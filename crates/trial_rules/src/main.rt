@@ -13,15 +13,17 @@ use calls::called;
 use lists::masks;
 use lists::same_masks;
 use refusal::both;
-use vectors::Tally;
-use vectors::byte;
-use vectors::counted;
-use vectors::moved;
-use vectors::none_yet;
-use vectors::part;
-use vectors::place;
-use vectors::report;
-use vectors::word;
+use trial_vectors::Tally;
+use trial_vectors::byte;
+use trial_vectors::cases_at;
+use trial_vectors::count_at;
+use trial_vectors::counted;
+use trial_vectors::input;
+use trial_vectors::moved;
+use trial_vectors::part;
+use trial_vectors::place;
+use trial_vectors::report;
+use trial_vectors::word;
 
 fn at_most_32(n: usize) -> usize
     ensures { λ r. ⌜ r ≤ 32 ⌝ }
@@ -84,24 +86,19 @@ fn one_case(rule: usize, s: &[u8], t: Tally) -> Tally {
 }
 
 fn all_cases(rule: usize, s: &[u8]) -> Tally {
-    let count = word(s, 0);
-    let mut t = none_yet();
-    let mut k = 0;
-    while k < count {
+    let mut t = cases_at(0);
+    for _ in 0..count_at(s, 0) {
         t = one_case(rule, s, t);
-        k += 1;
     }
     t
 }
 
 fn main() {
-    let mut room = [0u8; 196608];
-    let n = io::read_full(0, &mut room);
-    let s = &room[..n];
-    report(b"arc cases ", all_cases(1, s));
-    report(b"forward check cases ", all_cases(2, s));
-    report(b"look ahead cases ", all_cases(3, s));
-    report(b"pure cases ", all_cases(4, s));
-    report(b"interchangeable cases ", all_cases(5, s));
+    let s = input();
+    report(b"arc cases ", all_cases(1, &s));
+    report(b"forward check cases ", all_cases(2, &s));
+    report(b"look ahead cases ", all_cases(3, &s));
+    report(b"pure cases ", all_cases(4, &s));
+    report(b"interchangeable cases ", all_cases(5, &s));
     report(b"refusals ", refusals::all_refusals());
 }

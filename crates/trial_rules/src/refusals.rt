@@ -4,11 +4,10 @@ use crate::answers::is;
 use crate::calls::called;
 use crate::lists::same_masks;
 use refusal::both;
-use vectors::Tally;
-use vectors::counted;
-use vectors::moved;
-use vectors::none_yet;
-use vectors::part;
+use trial_vectors::Tally;
+use trial_vectors::counted;
+use trial_vectors::none_yet;
+use trial_vectors::part;
 
 fn sample() -> [u8; 51] {
     let mut g = [0u8; 51];
@@ -100,5 +99,5 @@ pub fn all_refusals() -> Tally {
         }
         rule += 1;
     }
-    option_refusals(moved(t, 2))
+    option_refusals(t)
 }

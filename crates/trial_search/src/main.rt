@@ -5,20 +5,22 @@ ghost use Prim.Native.Nat.{_≤_};
 
 mod sample;
 
-use judged_cases::is_won;
-use judged_cases::position_at;
-use judged_cases::searched;
 use judging::Searched;
 use refusal::both;
-use vectors::Tally;
-use vectors::byte;
-use vectors::counted;
-use vectors::moved;
-use vectors::none_yet;
-use vectors::part;
-use vectors::place;
-use vectors::report;
-use vectors::word;
+use trial_judged::is_won;
+use trial_judged::searched;
+use trial_stored::position_at;
+use trial_vectors::Tally;
+use trial_vectors::byte;
+use trial_vectors::cases_at;
+use trial_vectors::count_at;
+use trial_vectors::counted;
+use trial_vectors::input;
+use trial_vectors::moved;
+use trial_vectors::part;
+use trial_vectors::place;
+use trial_vectors::report;
+use trial_vectors::word;
 
 // The rules of the first turn lose as byte q says, and leave the n masks behind it; zeros follow.
 fn turn_agrees(s: &[u8], q: usize, n: usize, r: Searched) -> bool
@@ -79,23 +81,17 @@ fn one_case(width: usize, s: &[u8], t: Tally) -> Tally {
 
 // The cases that stand from `start` on, behind their number.
 fn all_cases(width: usize, s: &[u8], start: usize) -> Tally {
-    let at = place(start);
-    let count = word(s, at);
-    let mut t = moved(none_yet(), at + 2);
-    let mut k = 0;
-    while k < count {
+    let mut t = cases_at(start);
+    for _ in 0..count_at(s, start) {
         t = one_case(width, s, t);
-        k += 1;
     }
     t
 }
 
 fn main() {
-    let mut room = [0u8; 327680];
-    let n = io::read_full(0, &mut room);
-    let s = &room[..n];
-    let turns = all_cases(2, s, 0);
+    let s = input();
+    let turns = all_cases(2, &s, 0);
     report(b"first turns ", turns);
-    report(b"searches ", all_cases(1, s, turns.at));
+    report(b"searches ", all_cases(1, &s, turns.at));
     report(b"conflict sets ", sample::all_sets());
 }

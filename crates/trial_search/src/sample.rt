@@ -3,15 +3,15 @@
 // (variable.value) 0.1-3.2, 1.0-2.0, 1.1-3.0, 2.1-3.2, 2.1-4.1, 3.1-4.0. The plays 0, 1, 1 lose and 0, 0, 1 win, so the conflict set
 // of the loss must hold variable 1.
 ghost use Prim.Native.Nat.{_<_};
-use judged_cases::conflict_along;
-use judged_cases::is_won;
-use judged_cases::searched;
 use position::Position;
 use refusal::both;
-use vectors::Tally;
-use vectors::counted;
-use vectors::none_yet;
-use vectors::part;
+use trial_judged::conflict_along;
+use trial_judged::is_won;
+use trial_judged::searched;
+use trial_vectors::Tally;
+use trial_vectors::counted;
+use trial_vectors::none_yet;
+use trial_vectors::part;
 
 // A byte of the file; none is behind its end.
 fn put(f: &mut [u8; 243], p: usize, b: u8) {

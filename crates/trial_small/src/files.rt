@@ -1,10 +1,10 @@
 // The files of all problems with one or two variables whose domains lie within {0, 1}.
 ghost use Prim.Native.Nat.{_≤_, _<_};
-use plain_game::both;
-use plain_game::has;
-use plain_game::put;
-use plain_game::put_mark;
-use plain_game::put_two;
+use trial_plain_game::both;
+use trial_plain_game::has;
+use trial_plain_game::put;
+use trial_plain_game::put_mark;
+use trial_plain_game::put_two;
 
 // Sides as bits, 1 universal; the rows of values 0 and 1 in two bits each, or 16 for no constraint. One variable has none.
 pub struct Small {

@@ -9,20 +9,21 @@ use files::double;
 use files::is_problem;
 use files::single;
 use files::written;
-use judged_cases::after;
-use judged_cases::judges_under_all;
-use judged_cases::marks_as_plain;
-use judged_cases::verdict;
-use plain_game::domain;
-use plain_game::has;
-use plain_game::wins;
-use plain_game::with;
-use vectors::Tally;
-use vectors::line;
-use vectors::none_yet;
-use vectors::one_more;
-use vectors::part;
-use vectors::report;
+use trial_judged::after;
+use trial_judged::judges_under_all;
+use trial_judged::marks_as_plain;
+use trial_judged::verdict;
+use trial_plain_game::domain;
+use trial_plain_game::has;
+use trial_plain_game::wins;
+use trial_plain_game::with;
+use trial_vectors::Tally;
+use trial_vectors::line;
+use trial_vectors::none_yet;
+use trial_vectors::one_if;
+use trial_vectors::one_more;
+use trial_vectors::part;
+use trial_vectors::report;
 
 struct Trial {
     problems: usize,
@@ -30,10 +31,6 @@ struct Trial {
     lost: usize,
     verdicts: Tally,
     marks: Tally,
-}
-
-fn one_if(x: usize, b: bool) -> usize {
-    if b { one_more(x) } else { x }
 }
 
 // The position after d plays.

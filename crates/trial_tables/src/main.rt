@@ -1,22 +1,27 @@
 // Decodes the files of the look-up's cases (stdin, as trial_lookup has it). Of an accepted file every row and every bit, in both
 // directions, is compared with the bytes that the look-up shows; a refused one must leave the arrays as they were.
 ghost use Prim.Native.Nat.{_≤_, _<_};
-ghost use Rattle.arrays.specs.Arrays.{InRange};
-use arrays::row;
+ghost use Rattle.solver_arrays.specs.Arrays.{InRange};
+use file_decoder::decode;
+use file_lookup::look_up;
 use mask::contains;
 use mask::contains_32;
-use pair_lookup::look_up;
-use problem_file::Header;
 use refusal::both;
-use tables::decode;
-use vectors::Tally;
-use vectors::counted;
-use vectors::moved;
-use vectors::none_yet;
-use vectors::part;
-use vectors::place;
-use vectors::report;
-use vectors::word;
+use solver_arrays::Index;
+use solver_arrays::Near;
+use solver_arrays::ROWS;
+use solver_arrays::Rows;
+use solver_arrays::row;
+use trial_vectors::Tally;
+use trial_vectors::cases_at;
+use trial_vectors::count_at;
+use trial_vectors::counted;
+use trial_vectors::input;
+use trial_vectors::moved;
+use trial_vectors::part;
+use trial_vectors::place;
+use trial_vectors::report;
+use trial_vectors::word;
 
 // Row a of the rows that are shown; all ones where none are.
 fn row_shown(shown: &[u8], a: usize) -> usize
@@ -30,7 +35,7 @@ fn row_shown(shown: &[u8], a: usize) -> usize
 }
 
 // Row a from i towards j has bit b exactly where row b from j towards i has bit a.
-fn turned(index: &[u16; 1024], rows: &[u16; 15888], i: usize, a: usize, j: usize) -> bool
+fn turned(index: &Index, rows: &Rows, i: usize, a: usize, j: usize) -> bool
     requires { ⌜ (i < 32) × (a < 16) × (j < 32) × InRange (now index) ⌝ }
 {
     let there = row(index, rows, i, a, j);
@@ -47,7 +52,7 @@ fn turned(index: &[u16; 1024], rows: &[u16; 15888], i: usize, a: usize, j: usize
 }
 
 // The 16 rows of a pair.
-fn rows_agree(shown: &[u8], index: &[u16; 1024], rows: &[u16; 15888], i: usize, j: usize) -> bool
+fn rows_agree(shown: &[u8], index: &Index, rows: &Rows, i: usize, j: usize) -> bool
     requires { ⌜ (i < 32) × (j < 32) × InRange (now index) ⌝ }
 {
     let mut ok = true;
@@ -64,17 +69,10 @@ fn rows_agree(shown: &[u8], index: &[u16; 1024], rows: &[u16; 15888], i: usize, 
 }
 
 // A pair in order: its rows, and that each is a neighbour of the other exactly where there are some.
-fn pair_agrees(
-    f: &[u8],
-    near: &[u32; 32],
-    index: &[u16; 1024],
-    rows: &[u16; 15888],
-    i: usize,
-    j: usize,
-) -> bool
+fn pair_agrees(f: &[u8], near: &Near, index: &Index, rows: &Rows, i: usize, j: usize) -> bool
     requires { ⌜ (i < 32) × (j < 32) × InRange (now index) ⌝ }
 {
-    let shown = pair_lookup::rows(f, look_up(f, i, j));
+    let shown = file_lookup::rows(f, look_up(f, i, j));
     let some = shown.len() == 32;
     let sides = both(
         contains_32(near[i], j) == some,
@@ -84,13 +82,7 @@ fn pair_agrees(
 }
 
 // The pairs of j with the variables before it.
-fn column_agrees(
-    f: &[u8],
-    near: &[u32; 32],
-    index: &[u16; 1024],
-    rows: &[u16; 15888],
-    j: usize,
-) -> bool
+fn column_agrees(f: &[u8], near: &Near, index: &Index, rows: &Rows, j: usize) -> bool
     requires { ⌜ (j < 32) × InRange (now index) ⌝ }
 {
     let mut ok = true;
@@ -102,13 +94,7 @@ fn column_agrees(
     ok
 }
 
-fn pairs_agree(
-    f: &[u8],
-    near: &[u32; 32],
-    index: &[u16; 1024],
-    rows: &[u16; 15888],
-    n: usize,
-) -> bool
+fn pairs_agree(f: &[u8], near: &Near, index: &Index, rows: &Rows, n: usize) -> bool
     requires { ⌜ (n ≤ 32) × InRange (now index) ⌝ }
 {
     let mut ok = true;
@@ -121,7 +107,7 @@ fn pairs_agree(
 }
 
 // The arrays are as file_agrees made them.
-fn near_kept(near: &[u32; 32]) -> bool {
+fn near_kept(near: &Near) -> bool {
     let mut ok = true;
     let mut k = 0;
     while k < 32 {
@@ -131,7 +117,7 @@ fn near_kept(near: &[u32; 32]) -> bool {
     ok
 }
 
-fn index_kept(index: &[u16; 1024]) -> bool {
+fn index_kept(index: &Index) -> bool {
     let mut ok = true;
     let mut k = 0;
     while k < 1024 {
@@ -141,7 +127,7 @@ fn index_kept(index: &[u16; 1024]) -> bool {
     ok
 }
 
-fn rows_kept(rows: &[u16; 15888]) -> bool {
+fn rows_kept(rows: &Rows) -> bool {
     let mut ok = true;
     let mut k = 0;
     while k < 15888 {
@@ -154,13 +140,12 @@ fn rows_kept(rows: &[u16; 15888]) -> bool {
 fn file_agrees(f: &[u8]) -> bool {
     let mut near = [7u32; 32];
     let mut index = [8u16; 1024];
-    let mut rows = [9u16; 15888];
+    let mut rows = [9u16; ROWS];
     let r = decode(f, &mut near, &mut index, &mut rows);
-    let h = r.header;
-    match h {
-        Header::Refused(_, _) => both(near_kept(&near), both(index_kept(&index), rows_kept(&rows))),
-        Header::Accepted(n, _, _, _) => pairs_agree(f, &near, &index, &rows, n as usize),
+    if r.refused {
+        return both(near_kept(&near), both(index_kept(&index), rows_kept(&rows)));
     }
+    pairs_agree(f, &near, &index, &rows, r.n)
 }
 
 fn one_case(s: &[u8], t: Tally) -> Tally {
@@ -170,19 +155,15 @@ fn one_case(s: &[u8], t: Tally) -> Tally {
     moved(counted(t, file_agrees(f)), at + 2 + length + 6)
 }
 
-fn all_cases(s: &[u8]) -> Tally {
-    let count = word(s, 0);
-    let mut t = none_yet();
-    let mut k = 0;
-    while k < count {
+fn all_files(s: &[u8]) -> Tally {
+    let mut t = cases_at(0);
+    for _ in 0..count_at(s, 0) {
         t = one_case(s, t);
-        k += 1;
     }
     t
 }
 
 fn main() {
-    let mut room = [0u8; 262144];
-    let n = io::read_full(0, &mut room);
-    report(b"decoded files ", all_cases(&room[..n]));
+    let s = input();
+    report(b"decoded files ", all_files(&s));
 }

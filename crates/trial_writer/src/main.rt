@@ -5,18 +5,20 @@ ghost use Prim.Native.Nat.{_≤_, _<_};
 ghost use lib.ListN.{length};
 use check::same;
 use file_layout::Rules;
-use problem_writer::Written;
-use problem_writer::write;
+use file_writer::Written;
+use file_writer::write;
 use refusal::both;
-use vectors::Tally;
-use vectors::byte;
-use vectors::counted;
-use vectors::moved;
-use vectors::none_yet;
-use vectors::part;
-use vectors::place;
-use vectors::report;
-use vectors::word;
+use trial_vectors::Tally;
+use trial_vectors::byte;
+use trial_vectors::cases_at;
+use trial_vectors::count_at;
+use trial_vectors::counted;
+use trial_vectors::input;
+use trial_vectors::moved;
+use trial_vectors::part;
+use trial_vectors::place;
+use trial_vectors::report;
+use trial_vectors::word;
 
 // The 512 numbers of two bytes from p on.
 fn words(s: &[u8], p: usize) -> [u16; 512]
@@ -144,19 +146,15 @@ fn one_case(s: &[u8], t: Tally) -> Tally {
     )
 }
 
-fn all_cases(s: &[u8]) -> Tally {
-    let count = word(s, 0);
-    let mut t = none_yet();
-    let mut k = 0;
-    while k < count {
+fn all_writes(s: &[u8]) -> Tally {
+    let mut t = cases_at(0);
+    for _ in 0..count_at(s, 0) {
         t = one_case(s, t);
-        k += 1;
     }
     t
 }
 
 fn main() {
-    let mut room = [0u8; 262144];
-    let n = io::read_full(0, &mut room);
-    report(b"writer cases ", all_cases(&room[..n]));
+    let s = input();
+    report(b"writer cases ", all_writes(&s));
 }

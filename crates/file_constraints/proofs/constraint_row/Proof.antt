@@ -1,4 +1,5 @@
 use borrow.Author.Needs.{needs}
+use native.Mathlib.Omega.{arith}
 use Rattle.file_layout.specs.Layout.{rowAt}
 use Rattle.file_constraints.specs.Constraints.{constraintRow, Whole}
 use Rattle.file_constraints.proofs.constraint_row.Statement.{statement}
@@ -25,7 +26,7 @@ add-word-at-3 c = search needs
 
 word-at-requires : tie.Need-word-at-requires
 unfolding Whole
-word-at-requires c κs = search needs
+word-at-requires c κs = omega arith
 
 returns : tie.Need-returns
 unfolding constraintRow rowAt

@@ -30,9 +30,9 @@ same-length c = search needs
 over : (c : tie.After-reached) → let a = c .before .before .before .before .before .args in c .reached .result ≡ reachedBy (a .f .now) (callsOf (a .calls .now))
 over c = from-fresh _ _ _ _ (c .before .fresh .ensures) (c .reached .ensures)
 
-marked : (c : tie.After-mark) → let a = c .before .before .before .before .before .before .before .before .args in
+marks-are : (c : tie.After-mark) → let a = c .before .before .before .before .before .before .before .before .args in
     told (c .mark .result) ≡ markTold (a .f .now) (reachedBy (a .f .now) (callsOf (a .calls .now))) (a .set) (length (a .room .now))
-marked c = let a = c .before .before .before .before .before .before .before .before .args in
+marks-are c = let a = c .before .before .before .before .before .before .before .before .args in
     c .mark .ensures .0 ∙ ap (λ (p : Position). markTold (a .f .now) p (a .set) (length (a .room .now))) (over (c .before .before .before))
 
 opened : (c : tie.After-open-values) → let a = c .before .before .before .before .before .before .args in
@@ -46,14 +46,14 @@ returns c =
     let o = c .before .before .before .before in
     let a = o .before .before .before .before .before .before .args in
     let e = o .open-values .ensures .1 in (
-      marked m,
+      marks-are m,
       (
         opened o,
         (
           (e .0 ∙ ap (masksShown (a .f .now)) (over (o .before)), e .1 ∙ ap (countsShown (a .f .now)) (over (o .before))),
           (
             m .mark .ensures .1 ∙ ap (λ (p : Position). markLeft (a .f .now) p (a .set) (a .room .now)) (over (o .before)),
-            λ fine. let t = demand-3 (a .f .now) fine (callsOf (a .calls .now)) (a .set) (length (a .room .now)) in (λ s r. marked m ∙ t .0 s r, opened o ∙ t .1),
+            λ fine. let t = demand-3 (a .f .now) fine (callsOf (a .calls .now)) (a .set) (length (a .room .now)) in (λ s r. marks-are m ∙ t .0 s r, opened o ∙ t .1),
           ),
         ),
       ),

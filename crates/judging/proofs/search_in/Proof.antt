@@ -22,13 +22,13 @@ search-with-requires : tie.Need-search-with-requires
 search-with-requires c κs = search needs
 
 returns : tie.Need-returns
-returns c = let z = chosen-none _ _ (ap toldSet (sym (c .before .before .c .given .1)) ∙ c .before .before .before .before .new .ensures) in searches-none _ _ _ _ _ _ _ _ _ _ _ (z .0) _ (z .1) refl (c .not-searched .ensures)
+returns c = let z = chosen-none _ _ (ap toldSet (sym (c .before .before .c .given .1)) ∙ c .before .before .before .before .new .ensures) in searches-none _ _ _ _ _ _ _ _ _ _ (z .0) _ (z .1) refl (c .not-searched .ensures)
 
 same-length : tie.Need-same-length
 same-length c = search needs
 
 returns-2 : tie.Need-returns-2
-returns-2 c = let z = chosen-set _ _ (ap toldSet (sym (c .before .before .before .before .before .c2 .given .1)) ∙ c .before .before .before .before .before .before .before .new .ensures) in searches-with _ _ _ _ _ _ _ _ (c .before .before .before .before .before .before .before .before .before .args .room .now) _ _ _ (z .0) (z .1) (c .before .before .search-with .ensures)
+returns-2 c = let z = chosen-set _ _ (ap toldSet (sym (c .before .before .before .before .before .c2 .given .1)) ∙ c .before .before .before .before .before .before .before .new .ensures) in searches-with _ _ _ _ _ _ _ (c .before .before .before .before .before .before .before .before .before .args .room .now) _ _ _ (z .0) (z .1) (c .before .before .search-with .ensures)
 
 pub search-in-spec : {M : Type 1} → statement M
 search-in-spec =

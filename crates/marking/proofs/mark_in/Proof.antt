@@ -21,7 +21,7 @@ mark-with-requires c κs = search needs
 returns : tie.Need-returns
 returns c =
     let z = chosen-none _ _ (ap toldSet (sym (c .before .c .given .1)) ∙ c .before .before .before .new .ensures) in
-    marks-none _ _ _ _ _ _ _ _ _ _ (z .0) _ (z .1) refl
+    marks-none _ _ _ _ _ _ _ _ _ (z .0) _ (z .1) refl
 
 same-length : tie.Need-same-length
 same-length c = search needs
@@ -29,7 +29,7 @@ same-length c = search needs
 returns-2 : tie.Need-returns-2
 returns-2 c =
     let z = chosen-set _ _ (ap toldSet (sym (c .before .before .before .before .before .c2 .given .1)) ∙ c .before .before .before .before .before .before .before .new .ensures) in
-    marks-with _ _ _ _ _ _ _ _ (c .before .before .before .before .before .before .before .before .before .args .room .now) _ _ _ (z .0) (z .1) (c .before .before .mark-with .ensures)
+    marks-with _ _ _ _ _ _ _ (c .before .before .before .before .before .before .before .before .before .args .room .now) _ _ _ (z .0) (z .1) (c .before .before .mark-with .ensures)
 
 pub mark-in-spec : {M : Type 1} → statement M
 mark-in-spec =

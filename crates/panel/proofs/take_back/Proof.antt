@@ -132,7 +132,7 @@ module _ {M : Type 1} (𝓤 : URA M) (H : Heap 𝓤) (A : Atoms 𝓤) (W : Given
   exits r e is =
       qed W (‵ (fobs γ (T.the-row .coded .code (r .position))) ∷ ‵ (fbor κ′ (Body (mem T.the-row) b o γ)) ∷ ‵ (flft κ′ q′) ∷ (‵ (flft κ q) ⊛ ‵ ftrue) ∷ ‵ Dom ∷ []) ∵
       suffices ! _ (ends-at 𝓤 H A session.ended stayed (session.clauses 𝓤 H A at-mem run) W (((κ, (κ′, tt)), (q, (q′, tt)), tt, a, vals), tt) (EL.val E.the-type E′.the-laws (r .answer)) (r .answer) (tt, (r .position, tt)) (tt, (tt, tt))) $
-      says ! (ap (λ (p : Played). p .answer) (e .0), ap (λ (p : Played). p .position) (e .0), e .1, e .2) $
+      says ! ((ap (λ (p : Played). p .answer) (e .0), ap (λ (p : Played). p .position) (e .0)), e .1, e .2) $
       -- the tokens; then the reference, the numbers and the slice; and the answer
       move ! (3 ∷ []) $ split ! $ move ! (4 ∷ 1 ∷ []) $ join ! $ move ! (1 ∷ 0 ∷ []) $ join ! $ frame ! $
       feqI ! (List Val) (vptr b o ∷ []) (vptr b o ∷ []) refl $ fjoin3 ! $

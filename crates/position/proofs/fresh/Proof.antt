@@ -1,10 +1,11 @@
 use mathlib.Core.Path.{refl}
+use Rattle.game.specs.Lists.{spread}
 use Rattle.position.specs.Position.{shown}
 use Rattle.position.proofs.fresh.Statement.{statement}
 use Rattle.position.proofs.fresh.Tie as tie
 
 returns : tie.Need-returns
-unfolding shown
+unfolding spread shown
 returns c = refl
 
 pub fresh-spec : {M : Type 1} → statement M

@@ -2,8 +2,8 @@ use borrow.Author.Needs.{needs}
 use native.Mathlib.Omega.{arith}
 use Prim.Native.Nat.{_≤_}
 use lib.ListN.{length}
-use Rattle.report.specs.Text.{replyText}
-use Rattle.report.proofs.TextLaws.{reply-long}
+use Rattle.report_text.specs.Text.{replyText}
+use Rattle.report_text.proofs.TextLaws.{reply-long}
 use Rattle.reporting.proofs.ReportLaws.{holds-as, reply-same}
 use Rattle.reporting.proofs.report_accepted.Statement.{statement}
 use Rattle.reporting.proofs.report_accepted.Tie as tie

@@ -2,10 +2,10 @@ use Prim.Native.Nat.{_≤_}
 use lib.ListN.{length}
 use mathlib.Core.Path.{sym, ap, _∙_}
 use native.Mathlib.Omega.{arith}
-use Rattle.report.specs.Text.{refusedText}
-use Rattle.report.proofs.TextLaws.{refused-long}
-use Rattle.problem_file.proofs.Accepted.{header-shows, header-refuses}
-use Rattle.problem_file.specs.Reading.{told as toldHeader}
+use Rattle.report_text.specs.Text.{refusedText}
+use Rattle.report_text.proofs.TextLaws.{refused-long}
+use Rattle.file_reader.proofs.Accepted.{header-shows, header-refuses}
+use Rattle.file_reader.specs.Reading.{told as toldHeader}
 use Rattle.reporting.proofs.ReportLaws.{holds-as, accepted-holds, refused-text}
 use borrow.Author.Needs.{needs}
 use Rattle.reporting.proofs.report_file.Statement.{statement}
@@ -61,14 +61,14 @@ returns c =
 
 returns-2 : tie.Need-returns-2
 returns-2 c =
-    let s = header-shows _ _ _ _ _ (ap toldHeader (sym (c .before .before .before .before .before .h2 .given .1)) ∙ c .before .before .before .before .before .before .before .read .ensures .0) in
+    let s = header-shows _ _ (ap toldHeader (sym (c .before .before .before .before .before .before .before .h2 .given .1)) ∙ c .before .before .before .before .before .before .before .before .before .read .ensures .0) in
     let e = c .report-accepted .ensures in
     let u = c .before .before .before .rules-used .ensures in
     let w = c .before .before .contains-32 .ensures in (
       e .0,
       (
-        accepted-holds _ _ _ _ _ s _ _ u w _ _ _ (e .1) .ends,
-        accepted-holds _ _ _ _ _ s _ _ u w _ _ _ (e .1) .bytes,
+        accepted-holds _ _ s _ _ u w _ _ _ (e .1) .ends,
+        accepted-holds _ _ s _ _ u w _ _ _ (e .1) .bytes,
       ),
     )
 

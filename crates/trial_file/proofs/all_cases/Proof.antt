@@ -4,16 +4,16 @@ use Rattle.trial_file.proofs.all_cases.Statement.{statement}
 use Rattle.trial_file.proofs.all_cases.Tie as tie
 
 abbrev Inv-loop : tie.InvT-loop
-Inv-loop s trial count t₀ k₀ t k = k ≤ count
+Inv-loop s trial t₀ counter₀ end t counter = counter ≤ end
 
 abbrev μ-loop : tie.MeasureT-loop
-μ-loop s trial count t₀ k₀ t k = count - k
+μ-loop s trial t₀ counter₀ end t counter = end - counter
 
-word-requires : tie.Need-word-requires Inv-loop μ-loop
-word-requires c κs = search needs
+cases-at-requires : tie.Need-cases-at-requires Inv-loop μ-loop
+cases-at-requires c κs = search needs
 
-none-yet-requires : tie.Need-none-yet-requires Inv-loop μ-loop
-none-yet-requires c κs = search needs
+count-at-requires : tie.Need-count-at-requires Inv-loop μ-loop
+count-at-requires c κs = search needs
 
 loop-holds : tie.Need-loop-holds Inv-loop μ-loop
 loop-holds c = search needs
@@ -21,8 +21,8 @@ loop-holds c = search needs
 one-case-requires : tie.Need-one-case-requires Inv-loop μ-loop
 one-case-requires c κs = search needs
 
-add-k : tie.Need-add-k Inv-loop μ-loop
-add-k c = search needs
+add-counter : tie.Need-add-counter Inv-loop μ-loop
+add-counter c = search needs
 
 loop-less : tie.Need-loop-less Inv-loop μ-loop
 loop-less c = search needs
@@ -39,11 +39,11 @@ all-cases-spec =
     (tie.spec
     Inv-loop
     μ-loop
-    word-requires
-    none-yet-requires
+    cases-at-requires
+    count-at-requires
     loop-holds
     one-case-requires
-    add-k
+    add-counter
     loop-less
     loop-again
     returns)

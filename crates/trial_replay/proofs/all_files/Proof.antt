@@ -4,22 +4,22 @@ use Rattle.trial_replay.proofs.all_files.Statement.{statement}
 use Rattle.trial_replay.proofs.all_files.Tie as tie
 
 abbrev Inv-loop : tie.InvT-loop
-Inv-loop s count x₀ k₀ x k = k ≤ count
+Inv-loop s x₀ k₀ k-end x k = k ≤ k-end
 
 abbrev μ-loop : tie.MeasureT-loop
-μ-loop s count x₀ k₀ x k = count - k
+μ-loop s x₀ k₀ k-end x k = k-end - k
 
-word-requires : tie.Need-word-requires Inv-loop μ-loop
-word-requires c κs = search needs
+cases-at-requires : tie.Need-cases-at-requires Inv-loop μ-loop
+cases-at-requires c κs = search needs
 
 none-yet-requires : tie.Need-none-yet-requires Inv-loop μ-loop
 none-yet-requires c κs = search needs
 
 none-yet-requires-2 : tie.Need-none-yet-requires-2 Inv-loop μ-loop
-none-yet-requires-2 c κs = search needs
+none-yet-requires-2 c = search needs
 
-none-yet-requires-3 : tie.Need-none-yet-requires-3 Inv-loop μ-loop
-none-yet-requires-3 c κs = search needs
+count-at-requires : tie.Need-count-at-requires Inv-loop μ-loop
+count-at-requires c κs = search needs
 
 loop-holds : tie.Need-loop-holds Inv-loop μ-loop
 loop-holds c = search needs
@@ -45,10 +45,10 @@ all-files-spec =
     (tie.spec
     Inv-loop
     μ-loop
-    word-requires
+    cases-at-requires
     none-yet-requires
     none-yet-requires-2
-    none-yet-requires-3
+    count-at-requires
     loop-holds
     one-file-requires
     add-k

@@ -4,25 +4,16 @@ use Rattle.trial_search.proofs.all_cases.Statement.{statement}
 use Rattle.trial_search.proofs.all_cases.Tie as tie
 
 abbrev Inv-loop : tie.InvT-loop
-Inv-loop width s start at count t₀ k₀ t k = k ≤ count
+Inv-loop width s start t₀ counter₀ end t counter = counter ≤ end
 
 abbrev μ-loop : tie.MeasureT-loop
-μ-loop width s start at count t₀ k₀ t k = count - k
+μ-loop width s start t₀ counter₀ end t counter = end - counter
 
-place-requires : tie.Need-place-requires Inv-loop μ-loop
-place-requires c κs = search needs
+cases-at-requires : tie.Need-cases-at-requires Inv-loop μ-loop
+cases-at-requires c κs = search needs
 
-word-requires : tie.Need-word-requires Inv-loop μ-loop
-word-requires c κs = search needs
-
-none-yet-requires : tie.Need-none-yet-requires Inv-loop μ-loop
-none-yet-requires c κs = search needs
-
-add-moved : tie.Need-add-moved Inv-loop μ-loop
-add-moved c = search needs
-
-moved-requires : tie.Need-moved-requires Inv-loop μ-loop
-moved-requires c κs = search needs
+count-at-requires : tie.Need-count-at-requires Inv-loop μ-loop
+count-at-requires c κs = search needs
 
 loop-holds : tie.Need-loop-holds Inv-loop μ-loop
 loop-holds c = search needs
@@ -30,8 +21,8 @@ loop-holds c = search needs
 one-case-requires : tie.Need-one-case-requires Inv-loop μ-loop
 one-case-requires c κs = search needs
 
-add-k : tie.Need-add-k Inv-loop μ-loop
-add-k c = search needs
+add-counter : tie.Need-add-counter Inv-loop μ-loop
+add-counter c = search needs
 
 loop-less : tie.Need-loop-less Inv-loop μ-loop
 loop-less c = search needs
@@ -48,14 +39,11 @@ all-cases-spec =
     (tie.spec
     Inv-loop
     μ-loop
-    place-requires
-    word-requires
-    none-yet-requires
-    add-moved
-    moved-requires
+    cases-at-requires
+    count-at-requires
     loop-holds
     one-case-requires
-    add-k
+    add-counter
     loop-less
     loop-again
     returns)

@@ -1,15 +1,10 @@
 use borrow.Author.Needs.{needs}
-use mathlib.Core.Path.{sym, ap, _∙_}
-use Rattle.problem_file.specs.Reading.{told}
-use Rattle.tables.proofs.Stated.{decoded}
+use native.Mathlib.Omega.{arith}
 use Rattle.trial_tables.proofs.file_agrees.Statement.{statement}
 use Rattle.trial_tables.proofs.file_agrees.Tie as tie
 
 decode-requires : tie.Need-decode-requires
 decode-requires c κs = search needs
-
-enum-told : tie.Need-enum-told
-enum-told c = search needs
 
 near-kept-requires : tie.Need-near-kept-requires
 near-kept-requires c κs = search needs
@@ -26,17 +21,10 @@ both-requires c κs = search needs
 both-requires-2 : tie.Need-both-requires-2
 both-requires-2 c κs = search needs
 
-enum-known-h : tie.Need-enum-known-h
-enum-known-h c = search needs
-
-cast-pairs-agree : tie.Need-cast-pairs-agree
-cast-pairs-agree c = search needs
-
 pairs-agree-requires : tie.Need-pairs-agree-requires
 pairs-agree-requires c κs =
-    let d = c .before .before .before .before .before .before .decode .ensures in
-    let h = decoded _ _ _ _ _ _ _ _ _ _ _ (ap told (sym (c .before .before .before .before .h .given .1)) ∙ d .0 .0) (d .1) in
-    (h .most, h .range)
+    let g = c .before .before .before .before .decode .ensures .given (c .before .before .before .if1 .left) in
+    (omega (arith, g .own, g .most), g .range)
 
 returns : tie.Need-returns
 returns c = search needs
@@ -49,14 +37,11 @@ file-agrees-spec =
     tie.close
     (tie.spec
     decode-requires
-    enum-told
     near-kept-requires
     index-kept-requires
     rows-kept-requires
     both-requires
     both-requires-2
-    enum-known-h
-    cast-pairs-agree
-    pairs-agree-requires
     returns
+    pairs-agree-requires
     returns-2)

@@ -1,5 +1,4 @@
 use borrow.Author.Needs.{needs}
-use Rattle.file_bytes.specs.Bytes.{lengthOf}
 use Rattle.file_bytes.proofs.head.length_of.Statement.{statement}
 use Rattle.file_bytes.proofs.head.length_of.Tie as tie
 
@@ -22,7 +21,6 @@ add-result-3 : tie.Need-add-result-3
 add-result-3 c = search needs
 
 returns : tie.Need-returns
-unfolding lengthOf
 returns c = cc
 
 pub length-of-spec : {M : Type 1} → statement M

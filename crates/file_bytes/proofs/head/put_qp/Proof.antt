@@ -2,7 +2,8 @@ use borrow.Author.Needs.{needs}
 use lib.ListN.{length-set}
 use mathlib.Core.Path.{_∙_}
 use native.Mathlib.Omega.{arith}
-use Rattle.file_bytes.specs.Bytes.{stored, qpBytes, wordBytes, markBytes}
+use Rattle.buffer.specs.Stored.{stored}
+use Rattle.file_bytes.specs.Bytes.{qpBytes, wordBytes, markBytes}
 use Rattle.file_bytes.proofs.head.put_qp.Statement.{statement}
 use Rattle.file_bytes.proofs.head.put_qp.Tie as tie
 

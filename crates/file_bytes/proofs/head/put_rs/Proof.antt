@@ -1,5 +1,6 @@
 use borrow.Author.Needs.{needs}
-use Rattle.file_bytes.specs.Bytes.{stored, rsBytes, markBytes}
+use Rattle.buffer.specs.Stored.{stored}
+use Rattle.file_bytes.specs.Bytes.{rsBytes, markBytes}
 use Rattle.file_bytes.proofs.head.put_rs.Statement.{statement}
 use Rattle.file_bytes.proofs.head.put_rs.Tie as tie
 

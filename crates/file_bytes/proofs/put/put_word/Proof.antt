@@ -1,7 +1,8 @@
 use lib.ListN.{length-set}
 use native.Mathlib.Numerals.{add-one}
 use native.Mathlib.Omega.{arith}
-use Rattle.file_bytes.specs.Bytes.{stored, wordBytes}
+use Rattle.buffer.specs.Stored.{stored}
+use Rattle.file_bytes.specs.Bytes.{wordBytes}
 use borrow.Author.Needs.{needs}
 use Rattle.file_bytes.proofs.put.put_word.Statement.{statement}
 use Rattle.file_bytes.proofs.put.put_word.Tie as tie

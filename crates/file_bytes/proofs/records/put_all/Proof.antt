@@ -1,7 +1,7 @@
 use borrow.Author.Needs.{needs}
 use denote.Ref.{now}
 use Rattle.file_bytes.proofs.RecordLaws.{all-stored}
-use Rattle.file_bytes.specs.Bytes.{lengthOf, numbersIn}
+use Rattle.file_bytes.specs.Bytes.{lengthOf, handedWith}
 use Rattle.file_bytes.proofs.records.put_all.Statement.{statement}
 use Rattle.file_bytes.proofs.records.put_all.Tie as tie
 
@@ -40,7 +40,15 @@ same-length : tie.Need-same-length
 same-length c = search needs
 
 returns : tie.Need-returns
-returns c = let a = c .before .before .before .before .before .before .before .before .before .before .before .before .before .before .before .before .before .before .before .before .before .args in rw (c .before .before .put-mark .ensures, c .before .before .before .before .before .before .before .put-constraints .ensures, c .before .before .before .before .before .before .before .before .before .before .before .put-variables .ensures, c .before .before .before .before .before .before .before .before .before .before .before .before .before .before .before .put-head .ensures, c .before .before .before .before .before .before .before .before .before .before .before .before .before .before .before .before .before .start-of .ensures .0) (all-stored _ (numbersIn (a .n) (a .m) (a .rules) (a .universal) (now (a .domains)) (now (a .constraints))))
+returns c = let a = c .before .before .before .before .before .before .before .before .before .before .before .before .before .before .before .before .before .before .before .before .before .before .before .args in
+    rw (
+      c .before .before .put-mark .ensures,
+      c .before .before .before .before .before .before .before .before .put-constraints .ensures,
+      c .before .before .before .before .before .before .before .before .before .before .before .before .put-variables .ensures,
+      c .before .before .before .before .before .before .before .before .before .before .before .before .before .before .before .before .put-head .ensures,
+      c .before .before .before .before .before .before .before .before .before .before .before .before .before .before .before .before .before .before .before .start-of .ensures .0,
+    )
+    (all-stored (handedWith (a .x) (now (a .domains)) (now (a .constraints))) _)
 
 pub put-all-spec : {M : Type 1} → statement M
 put-all-spec =

@@ -5,13 +5,14 @@ use mathlib.Core.Path.{_≡_, refl, ap, _∙_}
 use native.Mathlib.Numerals.{add-one}
 use native.Mathlib.Omega.{arith}
 use Rattle.file_bytes.proofs.RecordLaws.{constraints-stored}
-use Rattle.file_bytes.proofs.Stored.{length-stored}
-use Rattle.file_bytes.specs.Bytes.{stored, joined, constraintsBytes, oneIn, twoIn, rowIn}
+use Rattle.buffer.proofs.StoredLaws.{length-stored}
+use Rattle.buffer.specs.Stored.{stored, joined}
+use Rattle.file_bytes.specs.Bytes.{constraintsBytes, oneIn, twoIn, rowHanded}
 use Rattle.file_bytes.proofs.records.put_constraints.Statement.{statement}
 use Rattle.file_bytes.proofs.records.put_constraints.Tie as tie
 
 abbrev Inv-loop : tie.InvT-loop
-Inv-loop buf₀ at m xs k₀ buf k = (k ≤ m) × (buf ≡ stored buf₀ at (constraintsBytes (oneIn xs) (twoIn xs) (rowIn xs) k))
+Inv-loop buf₀ at m xs k₀ buf k = (k ≤ m) × (buf ≡ stored buf₀ at (constraintsBytes (oneIn xs) (twoIn xs) (rowHanded xs) k))
 
 abbrev μ-loop : tie.MeasureT-loop
 μ-loop buf₀ at m xs k₀ buf k = m - k

@@ -5,8 +5,9 @@ use mathlib.Core.Path.{_≡_, refl, ap, _∙_}
 use native.Mathlib.Numerals.{add-one}
 use native.Mathlib.Omega.{arith}
 use Rattle.file_bytes.proofs.RecordLaws.{rows-stored}
-use Rattle.file_bytes.proofs.Stored.{length-stored}
-use Rattle.file_bytes.specs.Bytes.{stored, joined, rowsBytes, from}
+use Rattle.buffer.proofs.StoredLaws.{length-stored}
+use Rattle.buffer.specs.Stored.{stored, joined}
+use Rattle.file_bytes.specs.Bytes.{rowsBytes, from}
 use Rattle.file_bytes.proofs.records.put_rows.Statement.{statement}
 use Rattle.file_bytes.proofs.records.put_rows.Tie as tie
 

@@ -6,8 +6,9 @@ use native.Mathlib.Numerals.{add-one}
 use native.Mathlib.Omega.{arith}
 use Rattle.mask.specs.Mask.{bit}
 use Rattle.file_bytes.proofs.RecordLaws.{variables-stored}
-use Rattle.file_bytes.proofs.Stored.{length-stored}
-use Rattle.file_bytes.specs.Bytes.{stored, joined, variablesBytes, domainIn}
+use Rattle.buffer.proofs.StoredLaws.{length-stored}
+use Rattle.buffer.specs.Stored.{stored, joined}
+use Rattle.file_bytes.specs.Bytes.{variablesBytes, domainIn}
 use Rattle.file_bytes.proofs.records.put_variables.Statement.{statement}
 use Rattle.file_bytes.proofs.records.put_variables.Tie as tie
 

@@ -1,7 +1,7 @@
 use lib.ListN.{length}
 use mathlib.Core.Path.{sym, ap}
 use Rattle.file_layout.specs.declared.Rules.{Rules}
-use Rattle.problem_file.specs.Reading.{ruleNumbers}
+use Rattle.file_reader.specs.Reading.{ruleNumbers}
 use borrow.Author.Needs.{needs}
 use Rattle.host.proofs.replies.named.Statement.{statement}
 use Rattle.host.proofs.replies.named.Tie as tie

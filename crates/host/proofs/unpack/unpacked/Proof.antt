@@ -3,13 +3,13 @@ use borrow.Author.Needs.{needs}
 use mathlib.Core.Path.{_≡_, refl, _∙_}
 use native.Mathlib.Omega.{arith}
 use lib.ListN.{length, length-set}
-use Rattle.host.specs.Unpack.{placeOf, unpack}
+use Rattle.host.specs.Unpack.{placeIn, unpack}
 use Rattle.host.proofs.Places.{Upto, one-more, all-of}
 use Rattle.host.proofs.unpack.unpacked.Statement.{statement}
 use Rattle.host.proofs.unpack.unpacked.Tie as tie
 
 abbrev Inv-loop : tie.InvT-loop
-Inv-loop plays a b c d words values₀ k₀ values k = (k ≤ 32) × (length values ≡ 32) × Upto (placeOf a b c d) k values
+Inv-loop plays a b c d words values₀ k₀ values k = (k ≤ 32) × (length values ≡ 32) × Upto (placeIn a b c d) k values
 
 abbrev μ-loop : tie.MeasureT-loop
 μ-loop plays a b c d words values₀ k₀ values k = 32 - k
@@ -36,7 +36,7 @@ loop-less : tie.Need-loop-less Inv-loop μ-loop
 loop-less c = search needs
 
 loop-again : tie.Need-loop-again Inv-loop μ-loop
-unfolding placeOf
+unfolding placeIn
 loop-again c =
     let l = c .before .before .loop in
     (search needs, simp length-set (l .inv .1), one-more _ 32 (l .k) (l .values) _ (omega arith) (l .inv .1) (c .byte-of .ensures) (l .inv .2))
@@ -45,7 +45,7 @@ returns : tie.Need-returns Inv-loop μ-loop
 unfolding unpack
 returns c =
     let i = c .before .loop .inv in
-    rw (all-of (placeOf _ _ _ _) 32 (c .before .loop .values) (i .1) (λ k h. i .2 k (omega arith))) refl
+    rw (all-of (placeIn _ _ _ _) 32 (c .before .loop .values) (i .1) (λ k h. i .2 k (omega arith))) refl
 
 pub unpacked-spec : {M : Type 1} → statement M
 unpacked-spec =

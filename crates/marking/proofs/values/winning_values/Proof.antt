@@ -3,26 +3,26 @@ use native.Mathlib.Omega.{arith}
 use lib.ListN.{length}
 use borrow.Author.Needs.{needs}
 use Rattle.mask.proofs.Members.{rest-lt}
-use Rattle.search_run.specs.Run.{roomNeeded}
+use Rattle.search_run.specs.Run.{roomWords}
 use Rattle.marking.proofs.MarkLaws.{Marking, marking-start, marking-at, marking-next, marking-room, marking-end}
 use Rattle.marking.proofs.values.winning_values.Statement.{statement}
 use Rattle.marking.proofs.values.winning_values.Tie as tie
 
 abbrev Inv-loop : tie.InvT-loop
-Inv-loop near index rows n universal domains set p room₀ d m won₀ left₀ room won left = Marking n universal near index rows domains (set .bits) p (roomNeeded n) room₀ m room won left
+Inv-loop near index rows v set p room₀ m won₀ left₀ room won left = Marking v near index rows (set .bits) p (roomWords (v .n)) room₀ m room won left
 
 abbrev μ-loop : tie.MeasureT-loop
-μ-loop near index rows n universal domains set p room₀ d m won₀ left₀ room won left = left
+μ-loop near index rows v set p room₀ m won₀ left₀ room won left = left
 
 -- The places of the position.
 long : (s : tie.Start Inv-loop μ-loop) → length (s .args .p .values) ≡ 32
 long s = search needs
 
 next-domain-requires : tie.Need-next-domain-requires Inv-loop μ-loop
-next-domain-requires c κs = search needs
+next-domain-requires c κs = let p = c .before .before .before .pre in omega (arith, p .next, p .most)
 
 loop-holds : tie.Need-loop-holds Inv-loop μ-loop
-loop-holds c = marking-start _ _ _ _ _ _ _ _ _ _ _ (search needs)
+loop-holds c = marking-start _ _ _ _ _ _ _ _ _ (search needs)
 
 lowest-requires : tie.Need-lowest-requires Inv-loop μ-loop
 lowest-requires c κs = search needs
@@ -32,13 +32,13 @@ cast-a c = search needs
 
 wins-with-requires : tie.Need-wins-with-requires Inv-loop μ-loop
 wins-with-requires c κs =
-    let p = c .before .before .before .before .before .before .pre in
+    let p = c .before .before .before .before .before .before .before .before .pre in
     let l = c .before .before .before .loop .inv in
-    let a = marking-at _ _ _ _ _ _ _ _ _ _ _ l (c .before .before .loop-test .taken) _ (c .before .lowest .ensures) in
-    (p .0, p .1, a .0, rw (sym (c .before .before .before .before .next-domain .ensures)) (a .1), p .2, omega (arith, l .size, p .3), p .4, p .5)
+    let a = marking-at _ _ _ _ _ _ _ _ _ l (c .before .before .loop-test .taken) _ (c .before .lowest .ensures) in
+    (record { most = p .most; next = p .next; fits = p .fits; room = omega (arith, l .size, p .room); range = p .range; posed = p .posed }, a .0, rw (sym (c .before .before .before .before .next-domain .ensures)) (a .1))
 
 with-value-requires : tie.Need-with-value-requires Inv-loop μ-loop
-with-value-requires c κs = marking-at _ _ _ _ _ _ _ _ _ _ _ (c .before .before .before .before .before .before .loop .inv) (c .before .before .before .before .before .loop-test .taken) _ (c .before .before .before .before .lowest .ensures) .0
+with-value-requires c κs = marking-at _ _ _ _ _ _ _ _ _ (c .before .before .before .before .before .before .loop .inv) (c .before .before .before .before .before .loop-test .taken) _ (c .before .before .before .before .lowest .ensures) .0
 
 rest-of-requires : tie.Need-rest-of-requires Inv-loop μ-loop
 rest-of-requires c κs = search needs
@@ -50,19 +50,20 @@ loop-again : tie.Need-loop-again Inv-loop μ-loop
 loop-again c =
     let w = c .before .before .before .before .wins-with .ensures in
     let l = c .before .before .before .before .before .before .before .before in
-    marking-next _ _ _ _ _ _ _ _ _ _ _ (l .loop .inv) (c .before .before .before .before .before .before .before .loop-test .taken) _ (c .before .before .before .before .before .before .lowest .ensures) _ (w .0) _ (w .1)
-    (l .before .before .before .pre .3) _ _ (c .before .with-value .ensures) (c .rest-of .ensures)
+    marking-next _ _ _ _ _ _ _ _ _ (l .loop .inv) (c .before .before .before .before .before .before .before .loop-test .taken) _ (c .before .before .before .before .before .before .lowest .ensures) _ (w .0) _ (w .1) (l .before .before .before .before .before .pre .room) _ _ (c .before .with-value .ensures) (c .rest-of .ensures)
 
 same-length : tie.Need-same-length Inv-loop μ-loop
 same-length c = search needs
 
 returns : tie.Need-returns Inv-loop μ-loop
 returns c =
-    let s = c .before .before .before .before in
+    let s = c .before .before .before .before .before .before in
     let p = s .pre in
     let e = c .before .before .next-domain .ensures in
-    let l = c .before .loop .inv in
-    (marking-end _ _ _ _ _ _ _ _ _ _ _ l (c .loop-test .left) e (p .0) (p .2) (long s) (p .1), marking-room _ _ _ _ _ _ _ _ _ _ _ l (c .loop-test .left) e (p .5) (p .1))
+    let l = c .before .loop .inv in (
+      marking-end _ _ _ _ _ _ _ _ _ l (c .loop-test .left) e (p .most) (p .fits) (long s) (p .next),
+      marking-room _ _ _ _ _ _ _ _ _ l (c .loop-test .left) e (p .posed) (p .next),
+    )
 
 pub winning-values-spec : {M : Type 1} → statement M
 winning-values-spec =

@@ -24,9 +24,15 @@ pushed-requires c κs = search needs
 run-requires : tie.Need-run-requires
 run-requires c κs =
     let s = c .before .before .before in
-    let p = s .pre in
-    let o = p .7 .poses in
-    (p .0, subst (λ (q : Position). T (fitsIn q (s .args .n) (s .args .domains .now))) (sym (c .before .pushed .ensures)) (pushed-fits _ _ _ (p .4) (p .0) (long s) (p .1) _ (p .7 .problem) (o .states .size) (o .domain) (p .3)), p .5, p .6, p .7)
+    let p = s .pre .0 in
+    let o = p .posed .poses in (
+      p .most,
+      subst (λ (q : Position). T (fitsIn q (s .args .v .n) (s .args .v .domains))) (sym (c .before .pushed .ensures))
+          (pushed-fits _ _ _ (p .fits) (p .most) (long s) (p .next) _ (p .posed .problem) (o .states .size) (o .domain) (s .pre .2)),
+      p .room,
+      p .range,
+      p .posed,
+    )
 
 same-length : tie.Need-same-length
 same-length c = search needs
@@ -34,10 +40,10 @@ same-length c = search needs
 returns : tie.Need-returns
 returns c =
     let s = c .before .before .before .before .before .before in
-    let p = s .pre in
+    let p = s .pre .0 in
     let r = c .before .before .run .ensures in (
       λ P o. r .0 P o .won
-          ∙ ap (λ (l : List ℕ). is-solved (searchFrom P (s .args .set .bits) l)) (ap playsOf (c .before .before .before .before .pushed .ensures) ∙ plays-pushed _ _ _ (p .4) (p .0) (long s) (p .1) _),
+          ∙ ap (λ (l : List ℕ). is-solved (searchFrom P (s .args .set .bits) l)) (ap playsOf (c .before .before .before .before .pushed .ensures) ∙ plays-pushed _ _ _ (p .fits) (p .most) (long s) (p .next) _),
       r .1,
     )
 

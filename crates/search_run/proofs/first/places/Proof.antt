@@ -1,22 +1,23 @@
-use Prim.Native.Nat.{ℕ, _+_, _-_, _≤_}
+use Prim.Native.Nat.{_-_, _≤_}
 use borrow.Author.Needs.{needs}
-use lib.ListN.{getD, length, replicate, length-set, length-replicate}
-use mathlib.Core.Path.{_≡_, refl, sym}
+use lib.ListN.{length, length-set}
+use mathlib.Core.Path.{_≡_, refl, ap, _∙_}
 use native.Mathlib.Omega.{arith}
-use Rattle.search_run.proofs.FirstLaws.{run-more, run-places}
-use Rattle.turn_words.proofs.RoomLaws.{run-none}
-use Rattle.turn_words.specs.TurnRoom.{withRun}
+use Rattle.game.specs.Lists.{listOf, spread}
+use Rattle.theory.proofs.SpreadLaws.{listed-next}
+use Rattle.search_run.specs.FirstTurn.{wordsFrom}
 use Rattle.search_run.proofs.first.places.Statement.{statement}
 use Rattle.search_run.proofs.first.places.Tie as tie
 
 abbrev Inv-loop : tie.InvT-loop
-Inv-loop start count w out₀ k₀ out k = (k ≤ count) × (length out ≡ 32) × (out ≡ withRun 0 k (λ j. getD w (start + j) 0) (replicate 32 0))
+Inv-loop start count w out₀ k₀ out k = (k ≤ count) × (length out ≡ 32) × (out ≡ spread (wordsFrom start k w))
 
 abbrev μ-loop : tie.MeasureT-loop
 μ-loop start count w out₀ k₀ out k = count - k
 
 loop-holds : tie.Need-loop-holds Inv-loop μ-loop
-loop-holds c = (search needs, refl, sym (run-none 0 _ _))
+unfolding spread wordsFrom listOf
+loop-holds c = (search needs, refl, refl)
 
 add-out : tie.Need-add-out Inv-loop μ-loop
 add-out c = search needs
@@ -40,10 +41,15 @@ loop-less : tie.Need-loop-less Inv-loop μ-loop
 loop-less c = search needs
 
 loop-again : tie.Need-loop-again Inv-loop μ-loop
-loop-again c = let i = c .before .before .loop .inv in (search needs, simp length-set (i .1), run-more _ _ _ _ _ (omega (arith, length-replicate {A = ℕ} 32 0)) (i .2) refl)
+unfolding wordsFrom
+loop-again c = let i = c .before .before .loop .inv in (search needs, simp length-set (i .1), listed-next _ _ _ _ (omega arith) (i .2) refl)
 
 returns : tie.Need-returns Inv-loop μ-loop
-returns c = let i = c .before .loop .inv in run-places _ _ _ _ _ (omega arith) (omega arith) (i .2)
+returns c =
+    let i = c .before .loop .inv in
+    let a = c .before .before .args in
+    let e : c .before .loop .k ≡ a .count = omega arith in
+    i .2 ∙ ap (λ k. spread (wordsFrom (a .start) k (a .w .now))) e
 
 pub places-spec : {M : Type 1} → statement M
 places-spec =

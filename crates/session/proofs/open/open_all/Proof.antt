@@ -2,18 +2,18 @@ use Prim.Native.Nat.{_-_, _≤_, _<_}
 use borrow.Author.Needs.{needs}
 use mathlib.Core.Path.{_≡_, refl}
 use native.Mathlib.Omega.{arith}
-use Rattle.game.specs.Lists.{listOf}
-use Rattle.session.proofs.OpenLaws.{masks-next, counts-next}
-use Rattle.session.specs.Opening.{spread, openMasks, maskCounts}
+use Rattle.game.specs.Lists.{listOf, spread}
+use Rattle.session.proofs.OpenLaws.{masks-next, counts-next, all-done}
+use Rattle.session.specs.Opening.{openAt, openMasks, maskCounts}
 use Rattle.session.proofs.open.open_all.Statement.{statement}
 use Rattle.session.proofs.open.open_all.Tie as tie
 
 abbrev Inv-loop : tie.InvT-loop
-Inv-loop index rows n universal domains values k masks₀ counts₀ j₀ masks counts j =
-    (j ≤ n) × (masks ≡ spread (openMasks index rows values universal domains k j)) × (counts ≡ spread (maskCounts index rows values universal domains k j))
+Inv-loop index rows p v values masks₀ counts₀ j₀ masks counts j =
+    (j ≤ v .n) × (masks ≡ spread (openMasks index rows v p j)) × (counts ≡ spread (maskCounts index rows v p j))
 
 abbrev μ-loop : tie.MeasureT-loop
-μ-loop index rows n universal domains values k masks₀ counts₀ j₀ masks counts j = n - j
+μ-loop index rows p v values masks₀ counts₀ j₀ masks counts j = v .n - j
 
 loop-holds : tie.Need-loop-holds Inv-loop μ-loop
 unfolding spread openMasks maskCounts listOf
@@ -47,18 +47,17 @@ loop-less : tie.Need-loop-less Inv-loop μ-loop
 loop-less c = search needs
 
 loop-again : tie.Need-loop-again Inv-loop μ-loop
+unfolding openAt
 loop-again c =
-    let l = c .before .before .before .before .loop in
+    let l = c .before .before .before .before .before .loop in
     let b : l .j < 32 = search needs in (
       search needs,
-      masks-next _ _ _ _ _ _ _ _ _ b (l .inv .1) (c .before .open-mask .ensures),
-      counts-next _ _ _ _ _ _ _ _ _ _ b (l .inv .2) (c .before .open-mask .ensures) (c .count-byte .ensures),
+      masks-next _ _ _ _ _ _ _ b (l .inv .1) (c .before .open-mask .ensures),
+      counts-next _ _ _ _ _ _ _ _ b (l .inv .2) (c .before .open-mask .ensures) (c .count-byte .ensures),
     )
 
 returns : tie.Need-returns Inv-loop μ-loop
-returns c =
-    let e : c .before .loop .j ≡ c .before .before .args .n = omega arith in
-    (refl, rw e at (c .before .loop .inv .1), rw e at (c .before .loop .inv .2))
+returns c = all-done _ _ _ _ _ _ _ (omega arith) (c .before .loop .inv .1) (c .before .loop .inv .2)
 
 pub open-all-spec : {M : Type 1} → statement M
 open-all-spec =

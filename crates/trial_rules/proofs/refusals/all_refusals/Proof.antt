@@ -30,9 +30,6 @@ loop-less c = search needs
 loop-again : tie.Need-loop-again Inv-loop μ-loop
 loop-again c = search needs
 
-moved-requires : tie.Need-moved-requires Inv-loop μ-loop
-moved-requires c κs = search needs
-
 option-refusals-requires : tie.Need-option-refusals-requires Inv-loop μ-loop
 option-refusals-requires c κs = search needs
 
@@ -52,6 +49,5 @@ all-refusals-spec =
     add-rule
     loop-less
     loop-again
-    moved-requires
     option-refusals-requires
     returns)

@@ -1,0 +1,59 @@
+-- Runs of stores, and lists that stand one behind another.
+use Prim.Native.Nat.{ℕ, zero, suc, _+_, _*_, _≤_, _<_}
+use mathlib.Core.Path.{_≡_, refl, sym, ap, _∙_}
+use mathlib.Core.List.{List, [], _∷_, _++_}
+use lib.ListN.{length, set, drop, length-append}
+use lib.Seq.{sets, length-sets, sets-eq}
+use native.Mathlib.Nat.{zero-add, add-zero, add-suc, suc-add, mul-zero, mul-suc}
+use native.Mathlib.Omega.{arith}
+use Rattle.buffer.specs.Stored.{stored, joined}
+
+-- Two runs of stores, one behind the other, are one.
+sets-append : (xs ys l : List ℕ) (i : ℕ) → sets (sets l i xs) (i + length xs) ys ≡ sets l i (xs ++ ys)
+sets-append [] ys l i = rw add-zero
+sets-append (x ∷ xs) ys l i = rw (add-suc, ← suc-add) (sets-append xs ys (set l i x) (suc i))
+
+-- Where xs are stored from i on and ys behind them, their append is stored.
+pub stored-more : (xs ys l : List ℕ) (i d : ℕ) → length xs ≡ d → stored (stored l i xs) (i + d) ys ≡ stored l i (xs ++ ys)
+unfolding stored
+stored-more xs ys l i d e = rw (← e) (sets-append xs ys l i)
+
+-- The same from the start.
+pub stored-behind : (xs ys l : List ℕ) (d : ℕ) → length xs ≡ d → stored (stored l 0 xs) d ys ≡ stored l 0 (xs ++ ys)
+stored-behind xs ys l d e = ap (λ (i : ℕ). stored (stored l 0 xs) i ys) (sym (zero-add d)) ∙ stored-more xs ys l 0 d e
+
+-- Stores keep a list's length.
+pub length-stored : (l : List ℕ) (i : ℕ) (vs : List ℕ) → length (stored l i vs) ≡ length l
+unfolding stored
+length-stored l i vs = length-sets l i vs
+
+-- Stored at the start: the bytes, and behind them what was there.
+pub stored-start : (xs l : List ℕ) → length xs ≤ length l → stored l 0 xs ≡ xs ++ drop (length xs) l
+unfolding stored
+stored-start xs l h = simp zero-add at (sets-eq xs l 0 (rw zero-add h))
+
+-- The lists g 0, g 1 .. below k stand one behind another from p on, list i at the place `at i`.
+pub record InRow (g : ℕ → List ℕ) (p : ℕ) (at : ℕ → ℕ) (k : ℕ) : Type 0 where
+  pub first : at 0 ≡ p
+  pub next : (i : ℕ) → i < k → at (suc i) ≡ at i + length (g i)
+
+pub row-front : (g : ℕ → List ℕ) (p : ℕ) (at : ℕ → ℕ) (k : ℕ) → InRow g p at (suc k) → InRow g p at k
+row-front g p at k r = record { first = r .first; next = λ i h. r .next i (omega arith) }
+
+-- Lists of one length w.
+pub row-of-width : (g : ℕ → List ℕ) (w : ℕ) → ((i : ℕ) → length (g i) ≡ w) → (p k : ℕ) → InRow g p (λ i. p + w * i) k
+row-of-width g w e p k = record { first = omega (arith, mul-zero w); next = λ i h. omega (arith, e i, mul-suc w i) }
+
+-- Lists in a row end where the next one begins.
+pub length-joined : (g : ℕ → List ℕ) (p : ℕ) (at : ℕ → ℕ) (k : ℕ) → InRow g p at k → p + length (joined g k) ≡ at k
+unfolding joined
+length-joined g p at zero r = omega (arith, r .first)
+length-joined g p at (suc k) r =
+    omega (arith, length-append (joined g k) (g k), length-joined g p at k (row-front g p at k r), r .next k (omega arith))
+
+-- One more list stored behind those before it.
+pub joined-stored : (g : ℕ → List ℕ) (p : ℕ) (at : ℕ → ℕ) (k : ℕ) → InRow g p at k → (l : List ℕ) →
+    stored (stored l p (joined g k)) (at k) (g k) ≡ stored l p (joined g (suc k))
+unfolding joined
+joined-stored g p at k r l =
+    ap (λ (q : ℕ). stored (stored l p (joined g k)) q (g k)) (sym (length-joined g p at k r)) ∙ stored-more (joined g k) (g k) l p _ refl

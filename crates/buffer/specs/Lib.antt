@@ -1,0 +1,8 @@
+-- Bytes put into a buffer.
+
+-- Bytes stored from a place on, and lists one behind another.
+pub mod Stored
+-- Numbers in decimal.
+pub mod Decimal
+-- A text that fits, and one that was put.
+pub mod Put

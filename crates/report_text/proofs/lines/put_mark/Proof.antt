@@ -1,0 +1,45 @@
+use borrow.Author.Needs.{needs}
+use Rattle.report_text.specs.Text.{markOf}
+use Rattle.report_text.proofs.lines.put_mark.Statement.{statement}
+use Rattle.report_text.proofs.lines.put_mark.Tie as tie
+
+slice-aggregate-put : tie.Need-slice-aggregate-put
+slice-aggregate-put c = search needs
+
+put-requires : tie.Need-put-requires
+unfolding markOf
+put-requires c κs = rw (c .before .before .if1 .taken) at (c .before .before .before .before .pre)
+
+slice-aggregate-put-2 : tie.Need-slice-aggregate-put-2
+slice-aggregate-put-2 c = search needs
+
+put-requires-2 : tie.Need-put-requires-2
+unfolding markOf
+put-requires-2 c κs = rw (c .before .before .if1 .left) at (c .before .before .before .before .pre)
+
+same-length : tie.Need-same-length
+same-length c = search needs
+
+returns : tie.Need-returns
+unfolding markOf
+returns c = rw (c .before .before .before .before .before .if1 .taken) (c .before .before .put .ensures)
+
+same-length-2 : tie.Need-same-length-2
+same-length-2 c = search needs
+
+returns-2 : tie.Need-returns-2
+unfolding markOf
+returns-2 c = rw (c .before .before .before .before .before .if1 .left) (c .before .before .put2 .ensures)
+
+pub put-mark-spec : {M : Type 1} → statement M
+put-mark-spec =
+    tie.close
+    (tie.spec
+    slice-aggregate-put
+    put-requires
+    slice-aggregate-put-2
+    put-requires-2
+    same-length
+    returns
+    same-length-2
+    returns-2)

@@ -1,0 +1,49 @@
+use Prim.Native.Nat.{_≤_, _-_}
+use borrow.Author.Needs.{needs}
+use Rattle.trial_lookup.proofs.all_lookups.Statement.{statement}
+use Rattle.trial_lookup.proofs.all_lookups.Tie as tie
+
+abbrev Inv-loop : tie.InvT-loop
+Inv-loop s t₀ counter₀ end t counter = counter ≤ end
+
+abbrev μ-loop : tie.MeasureT-loop
+μ-loop s t₀ counter₀ end t counter = end - counter
+
+cases-at-requires : tie.Need-cases-at-requires Inv-loop μ-loop
+cases-at-requires c κs = search needs
+
+count-at-requires : tie.Need-count-at-requires Inv-loop μ-loop
+count-at-requires c κs = search needs
+
+loop-holds : tie.Need-loop-holds Inv-loop μ-loop
+loop-holds c = search needs
+
+one-case-requires : tie.Need-one-case-requires Inv-loop μ-loop
+one-case-requires c κs = search needs
+
+add-counter : tie.Need-add-counter Inv-loop μ-loop
+add-counter c = search needs
+
+loop-less : tie.Need-loop-less Inv-loop μ-loop
+loop-less c = search needs
+
+loop-again : tie.Need-loop-again Inv-loop μ-loop
+loop-again c = search needs
+
+returns : tie.Need-returns Inv-loop μ-loop
+returns c = search needs
+
+pub all-lookups-spec : {M : Type 1} → statement M
+all-lookups-spec =
+    tie.close
+    (tie.spec
+    Inv-loop
+    μ-loop
+    cases-at-requires
+    count-at-requires
+    loop-holds
+    one-case-requires
+    add-counter
+    loop-less
+    loop-again
+    returns)
