@@ -16,8 +16,8 @@ use Rattle.solver_arrays.specs.Arrays.{States}
 use Rattle.solver_arrays.specs.Words.{listIn, whyIn}
 use Rattle.solver_arrays.proofs.WordLaws.{length-whyIn, listIn-holding}
 use Rattle.rule_arc.specs.ArcRule.{Arced}
-use Rattle.rule_entries.specs.Lend.{copied}
-use Rattle.rule_entries.proofs.LendLaws.{words-hold}
+use Rattle.rule_lend.specs.Lend.{copied}
+use Rattle.rule_lend.proofs.LendLaws.{words-hold}
 
 module _ (P : Problem) (l R : List ℕ) (t : T (mayLend P l)) (e : length R ≡ P .n) where
   explained-list : explainArc P l R .list ≡ arc P l .list

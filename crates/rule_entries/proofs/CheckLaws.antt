@@ -16,8 +16,8 @@ use Rattle.solver_arrays.specs.Words.{listIn}
 use Rattle.solver_arrays.proofs.WordLaws.{listIn-holding}
 use Rattle.rule_forward.specs.Replies.{afterForward, aheadValue}
 use Rattle.rule_forward.proofs.RuleLaws.{loss-named, ahead-named}
-use Rattle.rule_entries.specs.Lend.{copied}
-use Rattle.rule_entries.proofs.LendLaws.{words-long, words-hold}
+use Rattle.rule_lend.specs.Lend.{copied}
+use Rattle.rule_lend.proofs.LendLaws.{words-long, words-hold}
 
 module _ (P : Problem) (n u : ℕ) (near index rows : List ℕ) (st : States P n u near index rows) (l w : List ℕ) (e : w ≡ copied l (replicate 128 0) n) (h : length l ≡ n) where
   same : listIn n w ≡ l

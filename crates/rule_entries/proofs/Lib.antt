@@ -1,7 +1,5 @@
 -- Laws of the rules called alone.
 
--- Lists copied, and the tests over the problem's domains and over the file's.
-pub mod LendLaws
 -- A loss and a mask told.
 pub mod ReplyLaws
 -- Rules 2 and 3 on the words that a list is copied into.

@@ -18,7 +18,7 @@ use Rattle.rule_entries.specs.declared.Ruled.the-variants.{Stands, Lost,
 use Rattle.rule_entries.specs.declared.Values.{Values}
 use Rattle.rule_entries.specs.declared.Values.the-variants.{Mask}
 use Rattle.rule_entries.specs.declared.Values.the-variants.{Refused as NoValues, RefusedAt as NoValuesAt}
-use Rattle.rule_entries.specs.Lend.{listTest, variableTest, valueTest}
+use Rattle.rule_lend.specs.Lend.{listTest, variableTest, valueTest}
 
 -- Each case of the answers in document 01's numbers: 0 for no loss, 1 for a loss; a mask.
 unfoldable pub told : Ruled → Told

@@ -1,11 +1,10 @@
-// Rules 1 to 5 alone, on a lent list of n masks: each call reads the file first, then tests what it is lent. It rests on `file_decoder`
-// and the crates of these rules. `arc`, `forward_check`, `look_ahead`, `pure` and `interchangeable` are open to callers.
+// Rules 1 to 5 alone, on a lent list of n masks: each call reads the file first, then tests what it is lent. It rests on `file_decoder`,
+// `rule_lend` and the crates of these rules. `arc`, `forward_check`, `look_ahead`, `pure` and `interchangeable` are open to callers.
 ghost use mathlib.Core.Path.{_≡_};
 ghost use Rattle.rule_entries.specs.Alone.{told, toldValues, arcTold, arcLeft, forwardTold, forwardLeft, aheadTold, pureTold, interchangeableTold};
 
 mod arc_alone;
 mod forward_alone;
-mod lend;
 mod narrow_alone;
 
 use arc_alone::arc_in;

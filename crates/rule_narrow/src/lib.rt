@@ -1,5 +1,5 @@
 // Rules 4 and 5 on the words of a turn: the masks that they reply at a variable, and its domain narrowed by them. Only neighbours are
-// looked at. It rests on `solver_arrays`. Every public function here is for `rule_entries` and `search_turns`.
+// looked at. It rests on `solver_arrays`. Every public function here is for `rule_entries` and `search_steps`.
 ghost use mathlib.Core.Path.{_≡_};
 ghost use mathlib.Core.Bool.{cond};
 ghost use Prim.Native.Nat.{_<_, _≤_, _^_};

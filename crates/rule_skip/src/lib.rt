@@ -1,6 +1,6 @@
 // Rule 7 on the words of a turn: of some values of its variable i those that a leaf lets it skip, all at once. `later` is the mask of
 // the universal variables above i. Only neighbours are looked at. It rests on `solver_arrays`. The public functions are for
-// `search_turns`.
+// `search_steps`.
 ghost use mathlib.Core.Path.{_≡_};
 ghost use Prim.Native.Nat.{_<_, _≤_};
 ghost use lib.Bits.{bitAnd};

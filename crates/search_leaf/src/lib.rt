@@ -1,5 +1,5 @@
 // The end of a line of play, over the words of a turn in which every variable has one value: whether a constraint is broken, and the
-// leaf that is handed up. Only neighbours are looked at. It rests on `solver_arrays`. The public functions are for `search_turns`.
+// leaf that is handed up. Only neighbours are looked at. It rests on `solver_arrays`. The public functions are for `search_steps`.
 ghost use mathlib.Core.Path.{_≡_};
 ghost use Prim.Native.Nat.{_<_, _≤_};
 ghost use lib.ListN.{length};

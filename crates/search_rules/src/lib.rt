@@ -1,5 +1,5 @@
 // Rules 2, 1 and 3 of a turn by its rule set, one after another: a loss ends the turn. Below another turn rule 1 looks only at what
-// changed since, and rule 3 is left out beside rule 1. It rests on `rule_forward` and `rule_arc`. `run_rules` is for `search_turns`, and
+// changed since, and rule 3 is left out beside rule 1. It rests on `rule_forward` and `rule_arc`. `run_rules` is for `search_steps`, and
 // for the trials.
 ghost use mathlib.Core.Path.{_≡_};
 ghost use mathlib.Core.Bool.{true, not, _&&_};

@@ -29,7 +29,7 @@ use Rattle.position.proofs.Narrowing.{written-list, written-other}
 use Rattle.search_words.specs.TurnRoom.{withRun}
 use Rattle.search_words.proofs.RoomLaws.{length-run, run-at, run-other, run-next}
 use Rattle.search_words.proofs.ReasonBounds.{Below, below-out, first-below}
-use Rattle.search_turns.specs.TurnReply.{TurnIn}
+use Rattle.search_steps.specs.TurnReply.{TurnIn}
 use Rattle.search_run.specs.FirstTurn.{ZeroBelow, wordsFrom, ownReasons, FirstWords}
 
 pub length-own : (d : ℕ) (w : List ℕ) → length (ownReasons d w) ≡ length w

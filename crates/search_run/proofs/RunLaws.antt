@@ -26,8 +26,8 @@ use Rattle.position.specs.declared.Position.{Position}
 use Rattle.position.specs.Position.{playsOf, fitsIn}
 use Rattle.search_words.specs.TurnRoom.{zeroed}
 use Rattle.search_words.proofs.RoomLaws.{length-zeroed, zeroed-at, zeroed-other}
-use Rattle.search_turns.specs.declared.Outcome.{Outcome}
-use Rattle.search_turns.specs.TurnReply.{replyIn, roomOf, Stands, Blank, Leaves, TurnReplies}
+use Rattle.search_steps.specs.declared.Outcome.{Outcome}
+use Rattle.search_steps.specs.TurnReply.{replyIn, roomOf, Stands, Blank, Leaves, TurnReplies}
 use Rattle.search_run.specs.declared.Ran.{Ran}
 use Rattle.search_run.specs.FirstTurn.{ZeroBelow, FirstWords}
 use Rattle.search_run.specs.Run.{roomWords, leafShown, conflictShown, Finds}

@@ -1,5 +1,6 @@
-// One inner run: the search from a position, with the list that the rules of its first turn reach, and the room that it needs. It rests
-// on `search_turns` and `position`. Every public function is for `judging` and `marking`, `ROOM` for `host` and `reporting`.
+// One inner run: the search from a position, with the list that the rules of its first turn reach, and the room that it takes. It rests
+// on `search_turns`, `search_steps` and `position`. Every public function is for `judging` and `marking`, `ROOM` for `host` and
+// `reporting`.
 ghost use mathlib.Core.Path.{_≡_};
 ghost use mathlib.Core.Bool.{cond};
 ghost use Prim.Native.Nat.{_≤_};
@@ -8,7 +9,7 @@ ghost use lib.ListN.{length};
 ghost use Rattle.solver_arrays.specs.Arrays.{InRange, Posed};
 ghost use Rattle.position.specs.Position.{fitsIn};
 ghost use Rattle.search_words.specs.TurnRoom.{zeroed};
-ghost use Rattle.search_turns.specs.TurnReply.{roomOf};
+ghost use Rattle.search_steps.specs.TurnReply.{roomOf};
 ghost use Rattle.search_run.specs.FirstTurn.{ZeroBelow};
 ghost use Rattle.search_run.specs.Run.{roomWords, Runs};
 
@@ -21,7 +22,7 @@ use first::list_of;
 use position::Position;
 use rule_set::RuleSet;
 use search_rules::Setting;
-use search_turns::Outcome;
+use search_steps::Outcome;
 use search_words::zero_words;
 use solver_arrays::Index;
 use solver_arrays::Near;

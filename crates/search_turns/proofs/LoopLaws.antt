@@ -21,7 +21,7 @@ use Rattle.solver_arrays.specs.Arrays.{States}
 use Rattle.solver_arrays.specs.Words.{listIn, whyIn, leafIn}
 use Rattle.search_words.specs.TurnSets.{ReasonsBelow}
 use Rattle.search_rules.specs.RuledTurn.{Stated}
-use Rattle.search_turns.specs.TurnReply.{TurnIn, Blank}
+use Rattle.search_steps.specs.TurnReply.{TurnIn, Blank}
 use Rattle.search_turns.proofs.RoomTurns.{Mid, Leafless, mid-start}
 
 -- What the turn below replies where value a of d is played over the words x.

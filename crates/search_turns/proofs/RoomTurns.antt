@@ -14,7 +14,7 @@ use Rattle.solver_arrays.proofs.WordLaws.{length-listIn, getD-listIn, length-wh
 use Rattle.search_words.specs.TurnRoom.{zeroed, handedDown, leafTaken}
 use Rattle.search_words.proofs.RoomLaws.{length-zeroed, zeroed-at, zeroed-other, length-leafTaken, leafTaken-at, leafTaken-below, leafTaken-other}
 use Rattle.search_words.proofs.ChildLaws.{length-handedDown, handedDown-other}
-use Rattle.search_turns.specs.TurnReply.{roomOf, Blank, Leaves}
+use Rattle.search_steps.specs.TurnReply.{roomOf, Blank, Leaves}
 
 -- The words y between two values, x being those after the rules: domains and reasons as in x, a leaf or none; the words behind the leaf are zero but
 -- for domains and reasons of the turn below; those from t on as in x.

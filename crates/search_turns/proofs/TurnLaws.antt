@@ -24,8 +24,8 @@ use Rattle.solver_arrays.specs.Arrays.{States}
 use Rattle.solver_arrays.specs.Words.{listIn, whyIn}
 use Rattle.solver_arrays.proofs.WordLaws.{getD-listIn}
 use Rattle.search_words.specs.TurnSets.{ReasonsBelow, Starts}
-use Rattle.search_turns.specs.TurnReply.{TurnIn}
-use Rattle.search_turns.specs.TurnSteps.{Enters}
+use Rattle.search_steps.specs.TurnReply.{TurnIn}
+use Rattle.search_steps.specs.TurnSteps.{Enters}
 
 module _ (P : Problem) (S : ℕ) (p : List ℕ) (o : Step) (e : List ℕ) (f : ℕ → Ending) where
   inner-lost : o .loss ≡ true → inner P S p o e f ≡ failed (o .set)

@@ -27,11 +27,11 @@ use Rattle.search_words.specs.TurnRoom.{zeroed, handedDown, leafTaken}
 use Rattle.search_words.specs.TurnSets.{ReasonsBelow, Starts}
 use Rattle.search_words.proofs.ChildLaws.{length-handedDown, handedDown-other, list-below, why-below, sets-below}
 use Rattle.search_words.proofs.ReasonBounds.{Below, below-in, below-out, explained-below}
-use Rattle.search_turns.specs.declared.Outcome.{Outcome}
-use Rattle.search_turns.specs.TurnReply.{replyIn, roomOf, Blank, TurnIn, Stands, Leaves, Reaches, TurnReplies}
-use Rattle.search_turns.specs.TurnSteps.{Enters, EntersTurn, LeavesUntried}
-use Rattle.search_turns.proofs.StandLaws.{plays-in, leaf-holds}
-use Rattle.search_turns.proofs.ReachLaws.{enters-reach}
+use Rattle.search_steps.specs.declared.Outcome.{Outcome}
+use Rattle.search_steps.specs.TurnReply.{replyIn, roomOf, Blank, TurnIn, Stands, Leaves, Reaches, TurnReplies}
+use Rattle.search_steps.specs.TurnSteps.{Enters, EntersTurn, LeavesUntried}
+use Rattle.search_steps.proofs.StandLaws.{plays-in, leaf-holds}
+use Rattle.search_steps.proofs.ReachLaws.{enters-reach}
 use Rattle.search_turns.proofs.RoomTurns.{Mid, Leafless, mid-list, mid-why, mid-wiped, wiped-leafless, left-list, leaves-leaf, leaf-handed, leaves-none, mid-lost, leafless-lost, mid-won, leaf-up, size-back}
 use Rattle.search_turns.proofs.TurnLaws.{entered-lost, entered-some, entered-each, some-left, child-turn}
 use Rattle.search_turns.proofs.LoopLaws.{replyBelow, Tries, SomeLoop, EachLoop, some-start, some-next, each-start, each-next, each-fail, each-less}

@@ -22,7 +22,7 @@ use Rattle.game.specs.Support.{clashes, alone, empty}
 use Rattle.game.specs.Arc.{dead, barred, arcLoss, sweep, swept, arc}
 use Rattle.game.specs.Pure.{isPure, pure}
 use Rattle.game.specs.Interchangeable.{interchange, representatives, interchangeable}
-use Rattle.rule_entries.specs.Lend.{listTest, variableTest}
+use Rattle.rule_lend.specs.Lend.{listTest, variableTest}
 use Rattle.refusal.specs.Replied.{repliedFor, listFor}
 use Rattle.rule_entries.specs.Alone.{arcReply, arcList, pureReply, interchangeableReply}
 use Rattle.session.specs.History.{listTold, listOpened}

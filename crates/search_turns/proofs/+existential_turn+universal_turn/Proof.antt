@@ -11,9 +11,9 @@ use borrow.Fn.PlainCycle.{Measures, is, falls, and}
 use Rattle.mask.specs.Range.{first}
 use Rattle.mask.specs.Mask.{bit}
 use Rattle.mask.proofs.Members.{low-lt, rest-lt}
-use Rattle.search_turns.specs.TurnReply.{roomOf}
-use Rattle.search_turns.proofs.SettledLaws.{settled}
-use Rattle.search_turns.proofs.StandLaws.{stated, checked, nonzero, last-stands, last-replies}
+use Rattle.search_steps.specs.TurnReply.{roomOf}
+use Rattle.search_steps.proofs.SettledLaws.{settled}
+use Rattle.search_steps.proofs.StandLaws.{stated, checked, nonzero, last-stands, last-replies}
 use Rattle.search_turns.proofs.LoopLaws.{SomeLoop, EachLoop}
 use Rattle.search_turns.proofs.WholeTurn.{AfterRules, Trying, Answered, answered, rules-lost, child-stands, child-blank, child-fits, back-deep, mid-fits, some-begins, some-ends, some-wins, some-leaves, some-goes-on, each-begins, each-ends, each-fails, each-goes-on, each-shrinks, won-mid, won-holds}
 use Rattle.search_turns.proofs.existential_turn.Reads as existential-turn
@@ -25,15 +25,15 @@ use Rattle.search_turns.proofs.+existential_turn+universal_turn.Lts-uni
 use Rattle.mask.proofs.contains_32.Reads as contains-32-reads
 use Rattle.mask.proofs.lowest.Reads as lowest-reads
 use Rattle.mask.proofs.rest_of.Reads as rest-of-reads
-use Rattle.search_turns.proofs.enter.Reads as enter-reads
-use Rattle.search_turns.proofs.jumps.Reads as jumps-reads
-use Rattle.search_turns.proofs.last_turn.Reads as last-turn-reads
-use Rattle.search_turns.proofs.lost_after.Reads as lost-after-reads
-use Rattle.search_turns.proofs.lost_below.Reads as lost-below-reads
-use Rattle.search_turns.proofs.lost_by_rules.Reads as lost-by-rules-reads
-use Rattle.search_turns.proofs.untried_next.Reads as untried-next-reads
-use Rattle.search_turns.proofs.won_below.Reads as won-below-reads
-use Rattle.search_turns.proofs.won_here.Reads as won-here-reads
+use Rattle.search_steps.proofs.enter.Reads as enter-reads
+use Rattle.search_steps.proofs.jumps.Reads as jumps-reads
+use Rattle.search_steps.proofs.last_turn.Reads as last-turn-reads
+use Rattle.search_steps.proofs.lost_after.Reads as lost-after-reads
+use Rattle.search_steps.proofs.lost_below.Reads as lost-below-reads
+use Rattle.search_steps.proofs.lost_by_rules.Reads as lost-by-rules-reads
+use Rattle.search_steps.proofs.untried_next.Reads as untried-next-reads
+use Rattle.search_steps.proofs.won_below.Reads as won-below-reads
+use Rattle.search_steps.proofs.won_here.Reads as won-here-reads
 use Rattle.search_words.proofs.hand_down.Reads as hand-down-reads
 use Rattle.search_words.proofs.take_leaf.Reads as take-leaf-reads
 use Rattle.search_words.proofs.start_set.Reads as start-set-reads

@@ -3,7 +3,7 @@ use mathlib.Core.Bool.{true, false}
 use mathlib.Core.Path.{sym, _∙_}
 use Rattle.refusal.proofs.RepliedLaws.{reply-refused, list-refused, list-left}
 use Rattle.rule_entries.proofs.ReplyLaws.{loss-told}
-use Rattle.rule_entries.proofs.LendLaws.{list-fine, list-same, may-lend}
+use Rattle.rule_lend.proofs.LendLaws.{list-fine, list-same, may-lend}
 use Rattle.rule_entries.specs.Alone.{told, arcReply, arcList}
 use Rattle.rule_entries.proofs.arc_alone.arc_in.Statement.{statement}
 use Rattle.rule_entries.proofs.arc_alone.arc_in.Tie as tie

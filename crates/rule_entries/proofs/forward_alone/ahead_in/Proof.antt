@@ -3,7 +3,7 @@ use mathlib.Core.Bool.{true, false}
 use mathlib.Core.Path.{sym, _∙_}
 use Rattle.refusal.proofs.RepliedLaws.{reply-refused}
 use Rattle.rule_entries.proofs.ReplyLaws.{loss-told}
-use Rattle.rule_entries.proofs.LendLaws.{variable-fine, variable-same}
+use Rattle.rule_lend.proofs.LendLaws.{variable-fine, variable-same}
 use Rattle.rule_entries.specs.Alone.{told, aheadReply}
 use Rattle.rule_entries.proofs.forward_alone.ahead_in.Statement.{statement}
 use Rattle.rule_entries.proofs.forward_alone.ahead_in.Tie as tie

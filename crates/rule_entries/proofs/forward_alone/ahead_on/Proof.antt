@@ -1,6 +1,6 @@
 use borrow.Author.Needs.{needs}
 use Rattle.rule_entries.proofs.CheckLaws.{ahead-ends}
-use Rattle.rule_entries.proofs.LendLaws.{words-long, words-nonzero}
+use Rattle.rule_lend.proofs.LendLaws.{words-long, words-nonzero}
 use Rattle.rule_entries.proofs.forward_alone.ahead_on.Statement.{statement}
 use Rattle.rule_entries.proofs.forward_alone.ahead_on.Tie as tie
 

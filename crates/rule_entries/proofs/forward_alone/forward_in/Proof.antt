@@ -3,7 +3,7 @@ use mathlib.Core.Bool.{true, false}
 use mathlib.Core.Path.{sym, _∙_}
 use Rattle.refusal.proofs.RepliedLaws.{reply-refused, list-refused, list-left}
 use Rattle.rule_entries.proofs.ReplyLaws.{loss-told}
-use Rattle.rule_entries.proofs.LendLaws.{value-fine, value-same}
+use Rattle.rule_lend.proofs.LendLaws.{value-fine, value-same}
 use Rattle.rule_entries.specs.Alone.{told, forwardReply, forwardList}
 use Rattle.rule_entries.proofs.forward_alone.forward_in.Statement.{statement}
 use Rattle.rule_entries.proofs.forward_alone.forward_in.Tie as tie

@@ -1,6 +1,6 @@
 use borrow.Author.Needs.{needs}
 use Rattle.rule_entries.proofs.CheckLaws.{forward-ends}
-use Rattle.rule_entries.proofs.LendLaws.{words-nonzero}
+use Rattle.rule_lend.proofs.LendLaws.{words-nonzero}
 use Rattle.rule_entries.proofs.forward_alone.forward_on.Statement.{statement}
 use Rattle.rule_entries.proofs.forward_alone.forward_on.Tie as tie
 

@@ -2,7 +2,7 @@ use borrow.Author.Needs.{needs}
 use mathlib.Core.Path.{sym, _∙_}
 use Rattle.refusal.proofs.RepliedLaws.{reply-refused}
 use Rattle.rule_entries.proofs.ReplyLaws.{mask-told}
-use Rattle.rule_entries.proofs.LendLaws.{variable-fine, variable-same}
+use Rattle.rule_lend.proofs.LendLaws.{variable-fine, variable-same}
 use Rattle.rule_entries.specs.Alone.{toldValues, pureReply}
 use Rattle.rule_entries.proofs.narrow_alone.pure_in.Statement.{statement}
 use Rattle.rule_entries.proofs.narrow_alone.pure_in.Tie as tie

@@ -1,7 +1,7 @@
 use borrow.Author.Needs.{needs}
 use mathlib.Core.Path.{ap, _∙_}
 use Rattle.game.specs.Pure.{pure}
-use Rattle.rule_entries.proofs.LendLaws.{words-hold}
+use Rattle.rule_lend.proofs.LendLaws.{words-hold}
 use Rattle.rule_entries.proofs.narrow_alone.pure_on.Statement.{statement}
 use Rattle.rule_entries.proofs.narrow_alone.pure_on.Tie as tie
 

@@ -1,7 +1,7 @@
 use borrow.Author.Needs.{needs}
 use mathlib.Core.Path.{sym, _∙_}
 use native.Mathlib.Omega.{arith}
-use Rattle.search_turns.proofs.StandLaws.{last-stands, last-replies}
+use Rattle.search_steps.proofs.StandLaws.{last-stands, last-replies}
 use Rattle.search_run.proofs.first.first_turn.Statement.{statement}
 use Rattle.search_run.proofs.first.first_turn.Tie as tie
 

@@ -1,0 +1,110 @@
+-- The last turn: the words hold a play of all variables.
+use mathlib.Core.Path.{_≡_, refl, sym, ap, subst, _∙_}
+use mathlib.Core.Bool.{Bool, true, false, cond}
+use mathlib.Core.List.{List}
+use mathlib.Core.Logic.{inl, inr}
+use Prim.Native.Nat.{ℕ, _+_, _-_, _^_, _≤_, _<_}
+use native.Mathlib.Omega.{arith}
+use lib.Dec.{T}
+use lib.Pow.{pow-mono}
+use lib.ListN.{getD, length}
+use lib.Seq.{ext-getD}
+use Rattle.mask.proofs.Logic.{by-lt}
+use Rattle.game.specs.Problem.{Problem}
+use Rattle.game.specs.Game.{satisfied}
+use Rattle.game.specs.Position.{playOf}
+use Rattle.game.specs.Rule.{uses}
+use Rattle.game.specs.Search.{solved, failed, handed, firstBroken, search}
+use Rattle.theory.proofs.Theorems as theorems
+use Rattle.solver_arrays.specs.Arrays.{States}
+use Rattle.solver_arrays.specs.Words.{listIn, whyIn, leafIn}
+use Rattle.solver_arrays.proofs.WordLaws.{length-listIn, getD-listIn}
+use Rattle.search_leaf.specs.Leaf.{Plays, Tells, withLeaf}
+use Rattle.search_leaf.proofs.BrokenLaws.{broken-some}
+use Rattle.search_leaf.proofs.LeafWords.{length-withLeaf, withLeaf-other, leaf-small, leaf-of-play}
+use Rattle.search_steps.specs.TurnReply.{replyIn, roomOf, TurnIn, Blank, Leaves}
+
+-- Every played variable has the mask of its value.
+pub played : (P : Problem) (n S c d : ℕ) (p w : List ℕ) → ((k : ℕ) → getD w k 0 < 65536) → P .n ≡ n → TurnIn P n S c d p w
+    → (j : ℕ) → j < d → (getD p j 0 < 16) × (getD w j 0 ≡ 2 ^ getD p j 0)
+played P n S c d p w small size turn j h =
+    let a = theorems.turn-position P S (turn .plays) (turn .legal-start) c p (listIn n w) (whyIn n w) (turn .turn) .1 in
+    let k = turn .count in
+    let l = a .depth in
+    let e : getD w j 0 ≡ 2 ^ getD p j 0 = sym (getD-listIn n w j (omega arith)) ∙ a .played j (omega arith) in
+    let s = small j in
+    (by-lt (getD p j 0) 16 (λ l. l) (λ u. absurd (let q : 2 ^ 16 ≤ 2 ^ getD p j 0 = pow-mono u in omega arith)), e)
+
+module _ (P : Problem) (n universal : ℕ) (near index rows : List ℕ) (st : States P n universal near index rows) (S c : ℕ) (p w : List ℕ)
+    (small : (k : ℕ) → getD w k 0 < 65536) (turn : TurnIn P n S c n p w) where
+  pub all-played : Plays n w p
+  all-played = record {
+    all = turn .count;
+    small = λ j h. played P n S c n p w small (st .size) turn j h .0;
+    word = λ j h. played P n S c n p w small (st .size) turn j h .1;
+  }
+
+  -- The game's reply, by the constraints alone.
+  reply : search P S c (n - n) p (listIn n w) (whyIn n w) ≡ cond (satisfied (P .compatible) n (playOf p)) (solved p) (failed (handed (uses S 6) n (firstBroken P p)))
+  reply =
+      let z : n - n ≡ 0 = omega arith in
+      ap (λ k. search P S c k p (listIn n w) (whyIn n w)) z
+      ∙ theorems.turn-leaf P S (turn .plays) (turn .legal-start) c p (listIn n w) (whyIn n w) (turn .turn) (turn .count ∙ sym (st .size))
+      ∙ ap (λ k. cond (satisfied (P .compatible) k (playOf p)) (solved p) (failed (handed (uses S 6) k (firstBroken P p)))) (st .size)
+
+  module _ (broken : ℕ) (tells : Tells near index rows n w broken) where
+    told : broken ≡ cond (satisfied (P .compatible) n (playOf p)) 0 (firstBroken P p)
+    told = tells P universal p st all-played
+
+    -- No constraint is broken.
+    unbroken : broken ≡ 0 → satisfied (P .compatible) n (playOf p) ≡ true
+    unbroken z = go (satisfied (P .compatible) n (playOf p)) (sym told ∙ z)
+      where
+        go : (s : Bool) → cond s 0 (firstBroken P p) ≡ 0 → s ≡ true
+        go true r = refl
+        go false r = absurd (broken-some P p r)
+
+    pub holds-all : broken ≡ 0 → T (satisfied (P .compatible) (P .n) (playOf p))
+    holds-all z = subst (λ k. T (satisfied (P .compatible) k (playOf p))) (sym (st .size)) (subst (λ b. T b) (sym (unbroken z)) tt)
+
+    pub last-won : broken ≡ 0 → 128 ≤ length w → n ≤ 32 → (w' : List ℕ) → w' ≡ withLeaf n w → (q : ℕ)
+        → search P S c (n - n) p (listIn n w) (whyIn n w) ≡ replyIn n true q w'
+    unfolding replyIn
+    last-won z b m w' e q =
+        reply ∙ ap (λ s. cond s (solved p) (failed (handed (uses S 6) n (firstBroken P p)))) (unbroken z)
+        ∙ ap solved (sym (ap (leafIn n) e ∙ leaf-of-play n w p (omega arith) all-played))
+
+    pub last-lost : ¬ (broken ≡ 0) → (six : Bool) → six ≡ uses S 6 → (set : ℕ) → set ≡ handed six n broken → (w' : List ℕ)
+        → search P S c (n - n) p (listIn n w) (whyIn n w) ≡ replyIn n false set w'
+    unfolding replyIn
+    last-lost z six s set e w' = reply ∙ go (satisfied (P .compatible) n (playOf p)) told ∙ ap failed (sym (e ∙ ap (λ b. handed b n broken) s))
+      where
+        go : (s : Bool) → broken ≡ cond s 0 (firstBroken P p) → cond s (solved p) (failed (handed (uses S 6) n (firstBroken P p))) ≡ failed (handed (uses S 6) n broken)
+        go true r = absurd (z r)
+        go false r = ap (λ b. failed (handed (uses S 6) n b)) (sym r)
+
+-- The room, with a leaf and without.
+module _ (n : ℕ) (w w' : List ℕ) (m : n ≤ 32) (b : 128 ≤ length w) (blank : Blank 128 w) where
+  pub leaves-won : w' ≡ withLeaf n w → Leaves n (roomOf n n) true w w'
+  leaves-won e = record {
+    size = ap length e ∙ length-withLeaf n w;
+    behind = λ k h u. ap (λ x. getD x k 0) e ∙ withLeaf-other n w k (inr h) ∙ blank k (omega arith) (omega arith);
+    small = λ j h. subst (λ (x : List ℕ). getD x (96 + j) 0 < 16) (sym e) (leaf-small n w (omega arith) j h);
+    lost = λ f. absurd (subst (λ b. T b) f tt);
+    beyond = λ k h. ap (λ x. getD x k 0) e ∙ withLeaf-other n w k (inr (omega arith));
+  }
+
+  pub leaf-list : w' ≡ withLeaf n w → listIn n w' ≡ listIn n w
+  leaf-list e =
+      let l = length-listIn n w' in
+      ext-getD 0 (listIn n w') (listIn n w) (l ∙ sym (length-listIn n w)) λ j h.
+      getD-listIn n w' j (omega arith) ∙ ap (λ x. getD x j 0) e ∙ withLeaf-other n w j (inl (omega arith)) ∙ sym (getD-listIn n w j (omega arith))
+
+  pub leaves-lost : length w' ≡ length w → ((k : ℕ) → 96 ≤ k → getD w' k 0 ≡ getD w k 0) → Leaves n (roomOf n n) false w w'
+  leaves-lost s e = record {
+    size = s;
+    behind = λ k h u. e k (omega arith) ∙ blank k (omega arith) (omega arith);
+    small = λ j h. let z = e (96 + j) (omega arith) ∙ blank (96 + j) (omega arith) (omega arith) in omega arith;
+    lost = λ _ k h u. e k h ∙ blank k h (omega arith);
+    beyond = λ k h. e k (omega arith);
+  }
