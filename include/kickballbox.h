@@ -19,7 +19,7 @@
    writes to memory that it was lent, so calls may run side by side on several threads.
 
    Stack: give a call KB_STACK bytes below its caller's frame, whatever the file. The measured need is less: the proof knows of no
-   stack; host/stack.c measures it (51,572 bytes at the deepest, 32 choices played one below another). */
+   stack; host/stack.c measures it (50,588 bytes at the deepest, 32 choices played one below another). */
 #ifndef KICKBALLBOX_H
 #define KICKBALLBOX_H
 

@@ -17,6 +17,7 @@ use position::Position;
 use refusal::Verdict;
 use rule_set::Chosen;
 use rule_set::RuleSet;
+use search_run::Start;
 use search_run::room_needed;
 use search_run::run;
 use solver_arrays::Index;
@@ -85,7 +86,12 @@ fn search_with(
     match t {
         Verdict::Refused(number, _) => not_searched(Judged::Refused(number)),
         Verdict::Fine => {
-            let r = run(near, index, rows, v, set, p, room);
+            let s = Start {
+                variables: v,
+                set: set,
+                position: p,
+            };
+            let r = run(near, index, rows, s, room);
             let judged = verdict_of(r.won);
             let list = r.list;
             let leaf = r.leaf;

@@ -16,6 +16,7 @@ use refusal::first;
 use refusal::needed;
 use rule_set::Chosen;
 use rule_set::RuleSet;
+use search_run::Start;
 use search_run::room_needed;
 use solver_arrays::Index;
 use solver_arrays::Near;
@@ -62,7 +63,12 @@ fn mark_with(
     match t {
         Verdict::Refused(number, _) => Marked::Refused(number),
         Verdict::Fine => {
-            let m = winning_values(near, index, rows, v, set, p, room);
+            let s = Start {
+                variables: v,
+                set: set,
+                position: p,
+            };
+            let m = winning_values(near, index, rows, s, room);
             Marked::Values(m.winning, m.domain)
         }
     }

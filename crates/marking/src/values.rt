@@ -10,14 +10,12 @@ ghost use Rattle.marking.specs.Marks.{Asked, WinsWith, Wins, withValue};
 use mask::lowest;
 use mask::rest_of;
 use mask::single;
-use position::Position;
 use position::pushed;
-use rule_set::RuleSet;
+use search_run::Start;
 use search_run::run;
 use solver_arrays::Index;
 use solver_arrays::Near;
 use solver_arrays::Rows;
-use solver_arrays::Variables;
 
 // The winning values of a position's next variable, and its domain.
 pub struct Marks {
@@ -26,21 +24,21 @@ pub struct Marks {
 }
 
 // Whether value a of the next variable wins when played.
-fn wins_with(
-    near: &Near,
-    index: &Index,
-    rows: &Rows,
-    v: Variables,
-    set: RuleSet,
-    p: Position,
-    a: usize,
-    room: &mut [u16],
-) -> bool
-    requires { ⌜ Asked v (now near) (now index) (now rows) p (now room) × (a < 16) × T (bit (getD (v .domains) (p .plays) 0) a) ⌝ }
-    ensures { λ r. ⌜ WinsWith v (now (near .entry)) (now (index .entry)) (now (rows .entry)) (set .bits) p a r
-        × (now (room .exit) ≡ zeroed 0 (roomWords (v .n)) (now (room .entry))) ⌝ }
+fn wins_with(near: &Near, index: &Index, rows: &Rows, s: Start, a: usize, room: &mut [u16]) -> bool
+    requires { ⌜ Asked s (now near) (now index) (now rows) (now room) × (a < 16)
+        × T (bit (getD (s .variables .domains) (s .position .plays) 0) a) ⌝ }
+    ensures { λ r. ⌜ WinsWith s (now (near .entry)) (now (index .entry)) (now (rows .entry)) a r
+        × (now (room .exit) ≡ zeroed 0 (roomWords (s .variables .n)) (now (room .entry))) ⌝ }
 {
-    run(near, index, rows, v, set, pushed(p, a as u8), room).won
+    let v = s.variables;
+    let set = s.set;
+    let p = s.position;
+    let then = Start {
+        variables: v,
+        set: set,
+        position: pushed(p, a as u8),
+    };
+    run(near, index, rows, then, room).won
 }
 
 // The mask m with value a in it where it wins.
@@ -60,26 +58,18 @@ fn next_domain(domains: &[u16; 32], d: usize) -> u16
 }
 
 // The values of the next variable that win, and its domain.
-pub fn winning_values(
-    near: &Near,
-    index: &Index,
-    rows: &Rows,
-    v: Variables,
-    set: RuleSet,
-    p: Position,
-    room: &mut [u16],
-) -> Marks
-    requires { ⌜ Asked v (now near) (now index) (now rows) p (now room) ⌝ }
-    ensures { λ r. ⌜ Wins v (now (near .entry)) (now (index .entry)) (now (rows .entry)) (set .bits) p (r .winning) (r .domain)
-        × (now (room .exit) ≡ zeroed 0 (roomWords (v .n)) (now (room .entry))) ⌝ }
+pub fn winning_values(near: &Near, index: &Index, rows: &Rows, s: Start, room: &mut [u16]) -> Marks
+    requires { ⌜ Asked s (now near) (now index) (now rows) (now room) ⌝ }
+    ensures { λ r. ⌜ Wins s (now (near .entry)) (now (index .entry)) (now (rows .entry)) (r .winning) (r .domain)
+        × (now (room .exit) ≡ zeroed 0 (roomWords (s .variables .n)) (now (room .entry))) ⌝ }
 {
-    let domains = v.domains;
-    let m = next_domain(&domains, p.plays);
+    let domains = s.variables.domains;
+    let m = next_domain(&domains, s.position.plays);
     let mut won: u16 = 0;
     let mut left = m;
     while left != 0 {
         let a = lowest(left) as usize;
-        let w = wins_with(near, index, rows, v, set, p, a, room);
+        let w = wins_with(near, index, rows, s, a, room);
         won = with_value(won, a, w);
         left = rest_of(left);
     }

@@ -38,12 +38,6 @@ pub struct Setting {
     pub set: RuleSet,
 }
 
-// A turn of a search: after d plays, of which those from c on are not yet checked.
-pub struct Turn {
-    pub c: usize,
-    pub d: usize,
-}
-
 // Rule 2 for the play of variable x.
 fn check_play(near: &Near, index: &Index, rows: &Rows, g: Setting, x: usize, w: &mut [u16]) -> Said
     requires { ⌜ (g .n ≤ 32) × (x < g .n) × (96 ≤ length (now w)) × InRange (now index) × Nonzero (g .n) (now w)
@@ -68,15 +62,22 @@ fn check_play(near: &Near, index: &Index, rows: &Rows, g: Setting, x: usize, w: 
 }
 
 // Rule 2 for the plays of a turn that are not yet checked.
-fn check_plays(near: &Near, index: &Index, rows: &Rows, g: Setting, t: Turn, w: &mut [u16]) -> Said
-    requires { ⌜ (g .n ≤ 32) × (t .c ≤ t .d) × (t .d ≤ g .n) × (96 ≤ length (now w)) × InRange (now index) × Nonzero (g .n) (now w)
+fn check_plays(
+    near: &Near,
+    index: &Index,
+    rows: &Rows,
+    g: Setting,
+    c: usize,
+    d: usize,
+    w: &mut [u16],
+) -> Said
+    requires { ⌜ (g .n ≤ 32) × (c ≤ d) × (d ≤ g .n) × (96 ≤ length (now w)) × InRange (now index) × Nonzero (g .n) (now w)
         × Stated (g .n) (g .universal) (now near) (now index) (now rows) ⌝ }
-    ensures { λ r. ⌜ ChecksTurn (g .n) (g .universal) (now (near .entry)) (now (index .entry)) (now (rows .entry)) true (t .c) (t .d)
+    ensures { λ r. ⌜ ChecksTurn (g .n) (g .universal) (now (near .entry)) (now (index .entry)) (now (rows .entry)) true c d
         (now (w .entry)) (now (w .exit)) (r .loss) (r .conflict) (r .narrowed) ⌝ }
 {
-    let d = t.d;
     let mut narrowed: u32 = 0;
-    let mut x = t.c;
+    let mut x = c;
     while x < d {
         let s = check_play(near, index, rows, g, x, w);
         if s.loss {
@@ -109,16 +110,17 @@ fn checks_turn(
     rows: &Rows,
     g: Setting,
     on: bool,
-    t: Turn,
+    c: usize,
+    d: usize,
     w: &mut [u16],
 ) -> Said
-    requires { ⌜ (g .n ≤ 32) × (t .c ≤ t .d) × (t .d ≤ g .n) × (96 ≤ length (now w)) × InRange (now index) × Nonzero (g .n) (now w)
+    requires { ⌜ (g .n ≤ 32) × (c ≤ d) × (d ≤ g .n) × (96 ≤ length (now w)) × InRange (now index) × Nonzero (g .n) (now w)
         × Stated (g .n) (g .universal) (now near) (now index) (now rows) ⌝ }
-    ensures { λ r. ⌜ ChecksTurn (g .n) (g .universal) (now (near .entry)) (now (index .entry)) (now (rows .entry)) on (t .c) (t .d)
+    ensures { λ r. ⌜ ChecksTurn (g .n) (g .universal) (now (near .entry)) (now (index .entry)) (now (rows .entry)) on c d
         (now (w .entry)) (now (w .exit)) (r .loss) (r .conflict) (r .narrowed) ⌝ }
 {
     if on {
-        return check_plays(near, index, rows, g, t, w);
+        return check_plays(near, index, rows, g, c, d, w);
     }
     Said {
         loss: false,
@@ -185,17 +187,18 @@ fn rule_turn(
     g: Setting,
     on: bool,
     changed: u32,
-    t: Turn,
+    c: usize,
+    d: usize,
     w: &mut [u16],
 ) -> Said
-    requires { ⌜ (g .n ≤ 32) × (t .c ≤ t .d) × (t .d ≤ g .n) × (96 ≤ length (now w)) × InRange (now index) × Nonzero (g .n) (now w)
+    requires { ⌜ (g .n ≤ 32) × (c ≤ d) × (d ≤ g .n) × (96 ≤ length (now w)) × InRange (now index) × Nonzero (g .n) (now w)
         × Stated (g .n) (g .universal) (now near) (now index) (now rows)
         × (¬ (rule ≡ 2) → on ≡ true → CalmBut (g .n) changed (now near) (now index) (now rows) (g .universal) (now w)) ⌝ }
-    ensures { λ r. ⌜ RuleTurn (g .n) (g .universal) (now (near .entry)) (now (index .entry)) (now (rows .entry)) rule on (t .c) (t .d)
+    ensures { λ r. ⌜ RuleTurn (g .n) (g .universal) (now (near .entry)) (now (index .entry)) (now (rows .entry)) rule on c d
         (now (w .entry)) (now (w .exit)) (r .loss) (r .conflict) (r .narrowed) ⌝ }
 {
     if rule == 2 {
-        return checks_turn(near, index, rows, g, on, t, w);
+        return checks_turn(near, index, rows, g, on, c, d, w);
     }
     arc_turn(near, index, rows, g, on, changed, w)
 }
@@ -238,26 +241,27 @@ pub fn run_rules(
     index: &Index,
     rows: &Rows,
     g: Setting,
-    t: Turn,
+    c: usize,
+    d: usize,
     w: &mut [u16],
 ) -> Said
-    requires { ⌜ (g .n ≤ 32) × (t .c ≤ t .d) × (t .d ≤ g .n) × (96 ≤ length (now w)) × InRange (now index) × Nonzero (g .n) (now w)
+    requires { ⌜ (g .n ≤ 32) × (c ≤ d) × (d ≤ g .n) × (96 ≤ length (now w)) × InRange (now index) × Nonzero (g .n) (now w)
         × Stated (g .n) (g .universal) (now near) (now index) (now rows)
-        × Settled (g .n) (g .universal) (now near) (now index) (now rows) (g .set .bits) (t .c) (t .d) (now w) ⌝ }
-    ensures { λ r. ⌜ RuledTurn (g .n) (g .universal) (now (near .entry)) (now (index .entry)) (now (rows .entry)) (g .set .bits) (t .c)
-        (t .d) (now (w .entry)) (now (w .exit)) (r .loss) (r .conflict) ⌝ }
+        × Settled (g .n) (g .universal) (now near) (now index) (now rows) (g .set .bits) c d (now w) ⌝ }
+    ensures { λ r. ⌜ RuledTurn (g .n) (g .universal) (now (near .entry)) (now (index .entry)) (now (rows .entry)) (g .set .bits) c d
+        (now (w .entry)) (now (w .exit)) (r .loss) (r .conflict) ⌝ }
 {
     let set = g.set;
     let checked = set.uses(2);
-    let s = rule_turn(2, near, index, rows, g, checked, 0, t, w);
+    let s = rule_turn(2, near, index, rows, g, checked, 0, c, d, w);
     if s.loss {
         return s;
     }
-    let changed = changed_by(g.n, t.c, t.d, checked, s.narrowed);
+    let changed = changed_by(g.n, c, d, checked, s.narrowed);
     let used = set.uses(1);
-    let a = rule_turn(1, near, index, rows, g, used, changed, t, w);
+    let a = rule_turn(1, near, index, rows, g, used, changed, c, d, w);
     if a.loss {
         return a;
     }
-    ahead_turn(near, index, rows, g, ahead_used(set, g.n, t.d), t.d, w)
+    ahead_turn(near, index, rows, g, ahead_used(set, g.n, d), d, w)
 }

@@ -2,6 +2,7 @@
 use mathlib.Core.Path.{_≡_}
 use mathlib.Core.List.{List, []}
 use Prim.Native.Nat.{ℕ, _+_, _*_, _≤_}
+use lib.Dec.{T}
 use Rattle.game.specs.Lists.{spread}
 use Rattle.game.specs.Problem.{Problem}
 use Rattle.game.specs.Turn.{firstList, reached}
@@ -9,8 +10,9 @@ use Rattle.game.specs.Search.{Ending, solved, failed, is-solved, searchFrom}
 use Rattle.solver_arrays.specs.declared.Variables.{Variables}
 use Rattle.solver_arrays.specs.Arrays.{InRange, Poses, Posed}
 use Rattle.position.specs.declared.Position.{Position}
-use Rattle.position.specs.Position.{playsOf}
+use Rattle.position.specs.Position.{playsOf, fitsIn}
 use Rattle.search_run.specs.declared.Ran.{Ran}
+use Rattle.search_run.specs.declared.Start.{Start}
 
 -- "A judgement or marking takes 128·(n+1) words of 16 bits": 128 for each turn, over n variables decoded; and for a problem.
 abbrev pub roomWords : ℕ → ℕ
@@ -49,6 +51,13 @@ pub record Finds (P : Problem) (S : ℕ) (p : Position) (r : Ran) : Type 0 where
   pub conflict : r .conflict ≡ conflictShown (searchFrom P S (playsOf p))
   pub leaf : r .leaf ≡ leafShown (searchFrom P S (playsOf p))
 
--- In every problem that the arrays state over the variables v.
-abbrev pub Runs : (v : Variables) (near index rows : List ℕ) (S : ℕ) (p : Position) (r : Ran) → Type 0
-Runs v near index rows S p r = (P : Problem) → Poses P v near index rows → Finds P S p r
+-- What a run is given: the arrays state some problem over the start's variables, and its position fits them.
+pub record Startable (s : Start) (near index rows : List ℕ) : Type 0 where
+  pub most : s .variables .n ≤ 32
+  pub fits : T (fitsIn (s .position) (s .variables .n) (s .variables .domains))
+  pub range : InRange index
+  pub posed : Posed (s .variables) near index rows
+
+-- In every problem that the arrays state over the variables, the run r finds this.
+abbrev pub Runs : (s : Start) (near index rows : List ℕ) (r : Ran) → Type 0
+Runs s near index rows r = (P : Problem) → Poses P (s .variables) near index rows → Finds P (s .set .bits) (s .position) r

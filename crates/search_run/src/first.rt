@@ -14,7 +14,6 @@ use mask::single_32;
 use position::Position;
 use position::narrowed_domains;
 use search_rules::Setting;
-use search_rules::Turn;
 use search_steps::Outcome;
 use search_steps::last_turn;
 use search_turns::existential_turn;
@@ -63,11 +62,10 @@ pub fn first_turn(
     if d == g.n {
         return last_turn(near, index, rows, g, 0, room);
     }
-    let t = Turn { c: 0, d: d };
     if contains_32(g.universal, d) {
-        return universal_turn(near, index, rows, g, t, room);
+        return universal_turn(near, index, rows, g, 0, d, room);
     }
-    existential_turn(near, index, rows, g, t, room)
+    existential_turn(near, index, rows, g, 0, d, room)
 }
 
 // The `count` words from `start` on, and zero behind them.

@@ -4,14 +4,11 @@
 ghost use mathlib.Core.Path.{_≡_};
 ghost use mathlib.Core.Bool.{cond};
 ghost use Prim.Native.Nat.{_≤_};
-ghost use lib.Dec.{T};
 ghost use lib.ListN.{length};
-ghost use Rattle.solver_arrays.specs.Arrays.{InRange, Posed};
-ghost use Rattle.position.specs.Position.{fitsIn};
 ghost use Rattle.search_words.specs.TurnRoom.{zeroed};
 ghost use Rattle.search_steps.specs.TurnReply.{roomOf};
 ghost use Rattle.search_run.specs.FirstTurn.{ZeroBelow};
-ghost use Rattle.search_run.specs.Run.{roomWords, Runs};
+ghost use Rattle.search_run.specs.Run.{roomWords, Startable, Runs};
 
 mod first;
 
@@ -28,6 +25,13 @@ use solver_arrays::Index;
 use solver_arrays::Near;
 use solver_arrays::Rows;
 use solver_arrays::Variables;
+
+// What a run starts from.
+pub struct Start {
+    pub variables: Variables,
+    pub set: RuleSet,
+    pub position: Position,
+}
 
 // What a search from a position comes to: what the rules of the first turn reached, and the outcome.
 pub struct Ran {
@@ -56,21 +60,15 @@ fn conflict_of(o: Outcome) -> u32
     if o.won { 0 } else { o.conflict }
 }
 
-// The search from the position p in the room of its first turn, whose words are zero before and afterwards.
-fn run_in(
-    near: &Near,
-    index: &Index,
-    rows: &Rows,
-    v: Variables,
-    set: RuleSet,
-    p: Position,
-    room: &mut [u16],
-) -> Ran
-    requires { ⌜ (v .n ≤ 32) × T (fitsIn p (v .n) (v .domains)) × (roomOf (v .n) (p .plays) ≤ length (now room)) × InRange (now index)
-        × ZeroBelow (roomOf (v .n) (p .plays)) (now room) × Posed v (now near) (now index) (now rows) ⌝ }
-    ensures { λ r. ⌜ Runs v (now (near .entry)) (now (index .entry)) (now (rows .entry)) (set .bits) p r
-        × (now (room .exit) ≡ now (room .entry)) ⌝ }
+// The search in the room of its first turn, whose words are zero before and afterwards.
+fn run_in(near: &Near, index: &Index, rows: &Rows, s: Start, room: &mut [u16]) -> Ran
+    requires { ⌜ Startable s (now near) (now index) (now rows) × (roomOf (s .variables .n) (s .position .plays) ≤ length (now room))
+        × ZeroBelow (roomOf (s .variables .n) (s .position .plays)) (now room) ⌝ }
+    ensures { λ r. ⌜ Runs s (now (near .entry)) (now (index .entry)) (now (rows .entry)) r × (now (room .exit) ≡ now (room .entry)) ⌝ }
 {
+    let v = s.variables;
+    let set = s.set;
+    let p = s.position;
     let d = p.plays;
     let n = v.n;
     let domains = v.domains;
@@ -94,22 +92,14 @@ fn run_in(
     }
 }
 
-// The search from the position p. Whatever the first words of the room are, they are zero afterwards.
-pub fn run(
-    near: &Near,
-    index: &Index,
-    rows: &Rows,
-    v: Variables,
-    set: RuleSet,
-    p: Position,
-    room: &mut [u16],
-) -> Ran
-    requires { ⌜ (v .n ≤ 32) × T (fitsIn p (v .n) (v .domains)) × (roomWords (v .n) ≤ length (now room)) × InRange (now index)
-        × Posed v (now near) (now index) (now rows) ⌝ }
-    ensures { λ r. ⌜ Runs v (now (near .entry)) (now (index .entry)) (now (rows .entry)) (set .bits) p r
-        × (now (room .exit) ≡ zeroed 0 (roomWords (v .n)) (now (room .entry))) ⌝ }
+// The search from a start. Whatever the first words of the room are, they are zero afterwards.
+pub fn run(near: &Near, index: &Index, rows: &Rows, s: Start, room: &mut [u16]) -> Ran
+    requires { ⌜ Startable s (now near) (now index) (now rows) × (roomWords (s .variables .n) ≤ length (now room)) ⌝ }
+    ensures { λ r. ⌜ Runs s (now (near .entry)) (now (index .entry)) (now (rows .entry)) r
+        × (now (room .exit) ≡ zeroed 0 (roomWords (s .variables .n)) (now (room .entry))) ⌝ }
 {
-    zero_words(0, room_needed(v.n), room);
-    let d = p.plays;
-    run_in(near, index, rows, v, set, p, &mut room[128 * d..])
+    let n = s.variables.n;
+    zero_words(0, room_needed(n), room);
+    let d = s.position.plays;
+    run_in(near, index, rows, s, &mut room[128 * d..])
 }

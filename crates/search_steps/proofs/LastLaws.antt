@@ -9,20 +9,21 @@ use lib.Dec.{T}
 use lib.Pow.{pow-mono}
 use lib.ListN.{getD, length}
 use lib.Seq.{ext-getD}
-use Rattle.mask.proofs.Logic.{by-lt}
+use Rattle.mask.proofs.Logic.{holds, by-lt}
 use Rattle.game.specs.Problem.{Problem}
 use Rattle.game.specs.Game.{satisfied}
 use Rattle.game.specs.Position.{playOf}
 use Rattle.game.specs.Rule.{uses}
 use Rattle.game.specs.Search.{solved, failed, handed, firstBroken, search}
 use Rattle.theory.proofs.Theorems as theorems
+use Rattle.theory.proofs.Quiet.{turn-unbroken}
 use Rattle.solver_arrays.specs.Arrays.{States}
 use Rattle.solver_arrays.specs.Words.{listIn, whyIn, leafIn}
 use Rattle.solver_arrays.proofs.WordLaws.{length-listIn, getD-listIn}
-use Rattle.search_leaf.specs.Leaf.{Plays, Tells, withLeaf}
+use Rattle.search_leaf.specs.Leaf.{Plays, withLeaf}
 use Rattle.search_leaf.proofs.BrokenLaws.{broken-some}
 use Rattle.search_leaf.proofs.LeafWords.{length-withLeaf, withLeaf-other, leaf-small, leaf-of-play}
-use Rattle.search_steps.specs.TurnReply.{replyIn, roomOf, TurnIn, Blank, Leaves}
+use Rattle.search_steps.specs.TurnReply.{replyIn, roomOf, TurnIn, TellsBroken, Blank, Leaves}
 
 -- Every played variable has the mask of its value.
 pub played : (P : Problem) (n S c d : ℕ) (p w : List ℕ) → ((k : ℕ) → getD w k 0 < 65536) → P .n ≡ n → TurnIn P n S c d p w
@@ -44,6 +45,12 @@ module _ (P : Problem) (n universal : ℕ) (near index rows : List ℕ) (st : St
     word = λ j h. played P n S c n p w small (st .size) turn j h .1;
   }
 
+  -- None is broken below a turn with rule 1.
+  pub skipped-told : uses S 1 ≡ true → ¬ (c ≡ 0) → 0 ≡ cond (satisfied (P .compatible) n (playOf p)) 0 (firstBroken P p)
+  skipped-told one z =
+      let all = turn-unbroken P S (turn .plays) (turn .legal-start) c p (listIn n w) (whyIn n w) (turn .turn) one z (turn .count ∙ sym (st .size)) in
+      ap (λ (b : Bool). cond b 0 (firstBroken P p)) (sym (holds {b = satisfied (P .compatible) n (playOf p)} (subst (λ k. T (satisfied (P .compatible) k (playOf p))) (st .size) all)))
+
   -- The game's reply, by the constraints alone.
   reply : search P S c (n - n) p (listIn n w) (whyIn n w) ≡ cond (satisfied (P .compatible) n (playOf p)) (solved p) (failed (handed (uses S 6) n (firstBroken P p)))
   reply =
@@ -52,9 +59,9 @@ module _ (P : Problem) (n universal : ℕ) (near index rows : List ℕ) (st : St
       ∙ theorems.turn-leaf P S (turn .plays) (turn .legal-start) c p (listIn n w) (whyIn n w) (turn .turn) (turn .count ∙ sym (st .size))
       ∙ ap (λ k. cond (satisfied (P .compatible) k (playOf p)) (solved p) (failed (handed (uses S 6) k (firstBroken P p)))) (st .size)
 
-  module _ (broken : ℕ) (tells : Tells near index rows n w broken) where
+  module _ (broken : ℕ) (tells : TellsBroken n universal near index rows S c w broken) where
     told : broken ≡ cond (satisfied (P .compatible) n (playOf p)) 0 (firstBroken P p)
-    told = tells P universal p st all-played
+    told = tells P st p turn
 
     -- No constraint is broken.
     unbroken : broken ≡ 0 → satisfied (P .compatible) n (playOf p) ≡ true

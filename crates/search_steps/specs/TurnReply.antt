@@ -7,9 +7,10 @@ use Prim.Native.Nat.{ℕ, _+_, _-_, _*_, _≤_, _<_}
 use lib.Dec.{T}
 use lib.ListN.{getD, length}
 use Rattle.game.specs.Problem.{Problem}
-use Rattle.game.specs.Position.{legal}
+use Rattle.game.specs.Game.{satisfied}
+use Rattle.game.specs.Position.{legal, playOf}
 use Rattle.game.specs.Turn.{reached}
-use Rattle.game.specs.Search.{Ending, solved, failed, search}
+use Rattle.game.specs.Search.{Ending, solved, failed, firstBroken, search}
 use Rattle.game.specs.Turns.{TurnOf}
 use Rattle.solver_arrays.specs.Arrays.{States}
 use Rattle.solver_arrays.specs.Words.{listIn, whyIn, leafIn}
@@ -59,6 +60,11 @@ module _ (n universal : ℕ) (near index rows : List ℕ) where
     pub states : States problem n universal near index rows
     pub plays : List ℕ
     pub turn : TurnIn problem n S c d plays w
+
+  -- At the last turn, the mask r is 0 where the play satisfies every constraint, else the two variables of the first broken one.
+  abbrev pub TellsBroken : (S c : ℕ) (w : List ℕ) (r : ℕ) → Type 0
+  TellsBroken S c w r = (P : Problem) → States P n universal near index rows → (p : List ℕ) → TurnIn P n S c n p w
+      → r ≡ cond (satisfied (P .compatible) n (playOf p)) 0 (firstBroken P p)
 
   -- What a turn replies and leaves, for every problem that the arrays state and all plays of a turn that the words hold.
   pub record TurnReplies (S c d : ℕ) (w w' : List ℕ) (o : Outcome) : Type 0 where

@@ -13,7 +13,7 @@ ghost use Rattle.solver_arrays.specs.Words.{Nonzero};
 ghost use Rattle.rule_skip.specs.Skip.{LeafHolds};
 ghost use Rattle.search_rules.specs.RuledTurn.{Stated, Settled};
 ghost use Rattle.search_words.specs.TurnRoom.{zeroed, leafTaken};
-ghost use Rattle.search_steps.specs.TurnReply.{Blank, Stands, TurnReplies};
+ghost use Rattle.search_steps.specs.TurnReply.{Blank, Stands, TellsBroken, TurnReplies};
 ghost use Rattle.search_steps.specs.TurnSteps.{EntersTurn, LeavesUntried};
 use mask::contains_32;
 use rule_narrow::narrow_next;
@@ -23,7 +23,6 @@ use rule_skip::untried_after;
 use search_leaf::copy_leaf;
 use search_leaf::first_broken;
 use search_rules::Setting;
-use search_rules::Turn;
 use search_rules::run_rules;
 use search_words::clear_below;
 use search_words::handed;
@@ -38,6 +37,22 @@ pub struct Outcome {
     pub loss: bool,
     pub won: bool,
     pub conflict: u32,
+}
+
+// 0 where no constraint is broken, else the mask of the two variables of the first broken one. Below a turn with rule 1 none is
+// (theory, `turn-unbroken`).
+fn broken_in(near: &Near, index: &Index, rows: &Rows, g: Setting, c: usize, w: &[u16]) -> u32
+    requires { ⌜ (g .n ≤ 32) × (96 ≤ length (now w)) × InRange (now index) ⌝ }
+    ensures { λ r. ⌜ TellsBroken (g .n) (g .universal) (now (near .entry)) (now (index .entry)) (now (rows .entry)) (g .set .bits) c
+        (now (w .entry)) r ⌝ }
+{
+    let set = g.set;
+    if c != 0 {
+        if set.uses(1) {
+            return 0;
+        }
+    }
+    first_broken(near, index, rows, g.n, w)
 }
 
 // All variables are played: won with the play as leaf, or lost with the first broken constraint. Where none is broken the
@@ -55,7 +70,7 @@ pub fn last_turn(
     ensures { λ r. ⌜ TurnReplies (g .n) (g .universal) (now (near .entry)) (now (index .entry)) (now (rows .entry)) (g .set .bits) c (g .n)
         (now (room .entry)) (now (room .exit)) r ⌝ }
 {
-    let broken = first_broken(near, index, rows, g.n, room);
+    let broken = broken_in(near, index, rows, g, c, room);
     if broken == 0 {
         copy_leaf(g.n, room);
         return Outcome {
@@ -64,8 +79,7 @@ pub fn last_turn(
             conflict: 0,
         };
     }
-    let t = Turn { c: c, d: g.n };
-    let s = run_rules(near, index, rows, g, t, room);
+    let s = run_rules(near, index, rows, g, c, g.n, room);
     let set = g.set;
     Outcome {
         loss: s.loss,
@@ -83,14 +97,22 @@ pub struct Entered {
 }
 
 // The rules of a turn with a variable left, and the domain of that variable narrowed.
-pub fn enter(near: &Near, index: &Index, rows: &Rows, g: Setting, t: Turn, w: &mut [u16]) -> Entered
-    requires { ⌜ (g .n ≤ 32) × (t .c ≤ t .d) × (t .d < g .n) × (96 ≤ length (now w)) × InRange (now index) × Nonzero (g .n) (now w)
+pub fn enter(
+    near: &Near,
+    index: &Index,
+    rows: &Rows,
+    g: Setting,
+    c: usize,
+    d: usize,
+    w: &mut [u16],
+) -> Entered
+    requires { ⌜ (g .n ≤ 32) × (c ≤ d) × (d < g .n) × (96 ≤ length (now w)) × InRange (now index) × Nonzero (g .n) (now w)
         × Stated (g .n) (g .universal) (now near) (now index) (now rows)
-        × Settled (g .n) (g .universal) (now near) (now index) (now rows) (g .set .bits) (t .c) (t .d) (now w) ⌝ }
-    ensures { λ r. ⌜ EntersTurn (g .n) (g .universal) (now (near .entry)) (now (index .entry)) (now (rows .entry)) (g .set .bits) (t .c)
-        (t .d) (now (w .entry)) (now (w .exit)) (r .lost) (r .conflict) (r .left) (r .narrowed) ⌝ }
+        × Settled (g .n) (g .universal) (now near) (now index) (now rows) (g .set .bits) c d (now w) ⌝ }
+    ensures { λ r. ⌜ EntersTurn (g .n) (g .universal) (now (near .entry)) (now (index .entry)) (now (rows .entry)) (g .set .bits) c d
+        (now (w .entry)) (now (w .exit)) (r .lost) (r .conflict) (r .left) (r .narrowed) ⌝ }
 {
-    let s = run_rules(near, index, rows, g, t, w);
+    let s = run_rules(near, index, rows, g, c, d, w);
     if s.loss {
         return Entered {
             lost: true,
@@ -99,7 +121,6 @@ pub fn enter(near: &Near, index: &Index, rows: &Rows, g: Setting, t: Turn, w: &m
             narrowed: false,
         };
     }
-    let d = t.d;
     let before = w[d];
     let set = g.set;
     narrow_next(

@@ -12,7 +12,6 @@ use mask::contains_32;
 use mask::lowest;
 use mask::rest_of;
 use search_rules::Setting;
-use search_rules::Turn;
 use search_steps::Outcome;
 use search_steps::enter;
 use search_steps::jumps;
@@ -36,18 +35,18 @@ pub fn existential_turn(
     index: &Index,
     rows: &Rows,
     g: Setting,
-    t: Turn,
+    c: usize,
+    d: usize,
     room: &mut [u16],
 ) -> Outcome
-    requires { ⌜ (g .n ≤ 32) × (t .d < g .n) × (bit (g .universal) (t .d) ≡ false) × (roomOf (g .n) (t .d) ≤ length (now room))
-        × InRange (now index) × Blank (roomOf (g .n) (t .d)) (now room)
-        × Stands (g .n) (g .universal) (now near) (now index) (now rows) (g .set .bits) (t .c) (t .d) (now room) ⌝ }
-    ensures { λ r. ⌜ TurnReplies (g .n) (g .universal) (now (near .entry)) (now (index .entry)) (now (rows .entry)) (g .set .bits) (t .c)
-        (t .d) (now (room .entry)) (now (room .exit)) r ⌝ }
+    requires { ⌜ (g .n ≤ 32) × (d < g .n) × (bit (g .universal) d ≡ false) × (roomOf (g .n) d ≤ length (now room))
+        × InRange (now index) × Blank (roomOf (g .n) d) (now room)
+        × Stands (g .n) (g .universal) (now near) (now index) (now rows) (g .set .bits) c d (now room) ⌝ }
+    ensures { λ r. ⌜ TurnReplies (g .n) (g .universal) (now (near .entry)) (now (index .entry)) (now (rows .entry)) (g .set .bits) c d
+        (now (room .entry)) (now (room .exit)) r ⌝ }
 {
-    let d = t.d;
     let set = g.set;
-    let e = enter(near, index, rows, g, t, room);
+    let e = enter(near, index, rows, g, c, d, room);
     if e.lost {
         return lost_by_rules(set, d, e.conflict);
     }
@@ -56,13 +55,12 @@ pub fn existential_turn(
     while left != 0 {
         hand_down(d, lowest(left) as usize, room);
         let next = d + 1;
-        let below = Turn { c: d, d: next };
         let o = if next == g.n {
             last_turn(near, index, rows, g, d, &mut room[128..])
         } else if contains_32(g.universal, next) {
-            universal_turn(near, index, rows, g, below, &mut room[128..])
+            universal_turn(near, index, rows, g, d, next, &mut room[128..])
         } else {
-            existential_turn(near, index, rows, g, below, &mut room[128..])
+            existential_turn(near, index, rows, g, d, next, &mut room[128..])
         };
         if o.won {
             return won_below(room);
@@ -82,18 +80,18 @@ pub fn universal_turn(
     index: &Index,
     rows: &Rows,
     g: Setting,
-    t: Turn,
+    c: usize,
+    d: usize,
     room: &mut [u16],
 ) -> Outcome
-    requires { ⌜ (g .n ≤ 32) × (t .d < g .n) × (bit (g .universal) (t .d) ≡ true) × (roomOf (g .n) (t .d) ≤ length (now room))
-        × InRange (now index) × Blank (roomOf (g .n) (t .d)) (now room)
-        × Stands (g .n) (g .universal) (now near) (now index) (now rows) (g .set .bits) (t .c) (t .d) (now room) ⌝ }
-    ensures { λ r. ⌜ TurnReplies (g .n) (g .universal) (now (near .entry)) (now (index .entry)) (now (rows .entry)) (g .set .bits) (t .c)
-        (t .d) (now (room .entry)) (now (room .exit)) r ⌝ }
+    requires { ⌜ (g .n ≤ 32) × (d < g .n) × (bit (g .universal) d ≡ true) × (roomOf (g .n) d ≤ length (now room))
+        × InRange (now index) × Blank (roomOf (g .n) d) (now room)
+        × Stands (g .n) (g .universal) (now near) (now index) (now rows) (g .set .bits) c d (now room) ⌝ }
+    ensures { λ r. ⌜ TurnReplies (g .n) (g .universal) (now (near .entry)) (now (index .entry)) (now (rows .entry)) (g .set .bits) c d
+        (now (room .entry)) (now (room .exit)) r ⌝ }
 {
-    let d = t.d;
     let set = g.set;
-    let e = enter(near, index, rows, g, t, room);
+    let e = enter(near, index, rows, g, c, d, room);
     if e.lost {
         return lost_by_rules(set, d, e.conflict);
     }
@@ -102,13 +100,12 @@ pub fn universal_turn(
         let a = lowest(left) as usize;
         hand_down(d, a, room);
         let next = d + 1;
-        let below = Turn { c: d, d: next };
         let o = if next == g.n {
             last_turn(near, index, rows, g, d, &mut room[128..])
         } else if contains_32(g.universal, next) {
-            universal_turn(near, index, rows, g, below, &mut room[128..])
+            universal_turn(near, index, rows, g, d, next, &mut room[128..])
         } else {
-            existential_turn(near, index, rows, g, below, &mut room[128..])
+            existential_turn(near, index, rows, g, d, next, &mut room[128..])
         };
         if !o.won {
             return lost_after(set, d, o.conflict, room);

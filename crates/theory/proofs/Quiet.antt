@@ -8,13 +8,13 @@ use lib.Dec.{T, eqb, ltb}
 use lib.ListN.{getD, length, set}
 use lib.Seq.{getD-set-same, getD-set-other}
 use borrow.Author.Tests.{eq-eqb, eqb-true, lt-ltb, le-ltb}
-use Rattle.mask.specs.Range.{some}
+use Rattle.mask.specs.Range.{some, each}
 use Rattle.mask.specs.Mask.{bit}
 use Rattle.mask.proofs.Logic.{same, holds, true-holds, fails, clash, test, by-eq}
-use Rattle.mask.proofs.Range.{some-out, some-in}
+use Rattle.mask.proofs.Range.{some-out, some-in, each-in}
 use Rattle.mask.proofs.Bits.{bit-single}
 use Rattle.game.specs.Problem.{Problem}
-use Rattle.game.specs.Game.{Domains}
+use Rattle.game.specs.Game.{Domains, satisfied}
 use Rattle.game.specs.Lists.{domains, narrowTo}
 use Rattle.game.specs.Position.{playOf, legal}
 use Rattle.game.specs.Rule.{uses}
@@ -25,6 +25,7 @@ use Rattle.game.specs.Reasons.{Sheet, Step, Ruling, chain, choose, idle, kills,
 use Rattle.game.specs.Search.{narrowNext}
 use Rattle.game.specs.Turns.{TurnOf, first, below}
 use Rattle.theory.specs.AnyOrder.{Formed}
+use Rattle.theory.specs.TurnList.{AtTurn}
 use Rattle.theory.proofs.Arc.{Closed}
 use Rattle.theory.proofs.Revisions.{revisions-closed, kills-local}
 use Rattle.theory.proofs.Explained as explaining
@@ -32,7 +33,7 @@ use Rattle.theory.proofs.Narrowed.{Trims}
 use Rattle.theory.proofs.Search.{F, foe, foe-in, trims, after}
 use Rattle.theory.proofs.TurnLists.{snoc-length}
 use Rattle.theory.proofs.Turns.{At, turn-at, turn-list, entry-loss, entry-list}
-use Rattle.theory.proofs.Lists.{domains-boxed}
+use Rattle.theory.proofs.Lists.{domains-boxed, lent-out}
 
 -- A chain of rules without a loss ends with what its last rule leaves.
 chain-through : (r s : Ruling) (l R : List ℕ) → chain r s l R .loss ≡ false
@@ -257,3 +258,50 @@ module _ (P : Problem) where
           let q = turn-list P S p₀ t (length p) (p ++ (a ∷ [])) _ _ (below {c = c} {p = p} {l = l} {R = R} a tu h e m) .played x (omega arith) in
           let f : getD (nextList P (after P S c p l R) (length p) a) x 0 ≡ 2 ^ getD (p ++ (a ∷ [])) x 0 = ap (λ (z : List ℕ). getD (nextList P z (length p) a) x 0) (sym r) ∙ q in
           single-only (nextList P (after P S c p l R) (length p) a) x (getD (p ++ (a ∷ [])) x 0) b f y
+
+  -- The values of two variables that have no others, where the later has no effect on the earlier.
+  quiet-goes : (D : Domains) (x a y b : ℕ) → x < y → a < 16 → b < 16 → T (D x a) → T (D y b) → ((v : ℕ) → T (D y v) → v ≡ b) → Quiet D x y → T (compatible x a y b)
+  unfolding kills barred clashes alone
+  quiet-goes D x a y b h la lb at-x at-y only q = test (constrained x y) near (λ f. free x y f a b)
+    where
+      unclashed : clashes P D x a y ≡ false → T (compatible x a y b)
+      unclashed e = test (compatible x a y b) (λ t. t) (λ f. absurd (clash e (some-in 16 (D y) (λ v. not (compatible x a y v)) b lb at-y (true-holds (ap not f)))))
+
+      found : (s : Bool) → not s ≡ false → T s
+      found true e = tt
+      found false e = true-holds (sym e)
+
+      joined : alone P D x a y ≡ false → T (compatible x a y b)
+      joined e =
+          let r = some-out 16 (D y) (λ v. compatible x a y v) (found (some 16 (D y) (λ v. compatible x a y v)) e) in
+          subst (λ (v : ℕ). T (compatible x a y v)) (only (r .0) (r .2)) (r .3)
+
+      lived : (j : Bool) → cond (j && ltb x y) (clashes P D x a y) (alone P D x a y) ≡ false → T (compatible x a y b)
+      lived true e = unclashed (rw (lt-ltb x y h) at e)
+      lived false e = joined e
+
+      unbarred : (j : Bool) → cond j (clashes P D x a y) (ltb x y && alone P D x a y) ≡ false → T (compatible x a y b)
+      unbarred true e = unclashed e
+      unbarred false e = joined (rw (lt-ltb x y h) at e)
+
+      near : T (constrained x y) → T (compatible x a y b)
+      near k = test (universal x) (λ u. unbarred (universal y) (q .unbarred (holds u) k a la at-x)) (λ u. lived (universal y) (q .lives u k a la at-x))
+
+  -- So a play of all variables below another turn breaks no constraint, where the rule set has rule 1.
+  pub turn-unbroken : (S : ℕ) (p₀ : List ℕ) → T (legal P p₀) → (c : ℕ) (p l R : List ℕ) → TurnOf P S p₀ c p l R → uses S 1 ≡ true → ¬ (c ≡ 0) → length p ≡ n
+      → T (satisfied compatible n (playOf p))
+  unfolding satisfied playOf domains
+  turn-unbroken S p₀ t c p l R tu one z e =
+      each-in n (λ y. true) (λ y. each y (λ x. true) (λ x. compatible x (getD p x 0) y (getD p y 0))) λ y ly _.
+      each-in y (λ x. true) (λ x. compatible x (getD p x 0) y (getD p y 0)) λ x lx _.
+      quiet-goes (domains l) x (getD p x 0) y (getD p y 0) lx (small x (omega arith)) (small y ly) (own x (omega arith)) (own y ly)
+      (λ v. single-only l y (getD p y 0) v (at .played y (omega arith))) (turn-quiet S p₀ t c p l R tu one z x y (omega arith) ly (λ _ _. omega arith))
+    where
+      at : AtTurn P p l
+      at = turn-list P S p₀ t c p l R tu
+
+      own : (j : ℕ) → j < n → T (domains l j (getD p j 0))
+      own j h = subst (λ (m : ℕ). T (bit m (getD p j 0))) (sym (at .played j (omega arith))) (true-holds (bit-single (getD p j 0) (getD p j 0) ∙ eq-eqb (getD p j 0) (getD p j 0) refl))
+
+      small : (j : ℕ) → j < n → getD p j 0 < 16
+      small j h = domains-boxed n l (lent-out P l (at .may) .masks) j (getD p j 0) (own j h) .1

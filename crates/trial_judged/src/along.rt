@@ -13,7 +13,6 @@ use position::Position;
 use rule_set::Chosen;
 use rule_set::RuleSet;
 use search_rules::Setting;
-use search_rules::Turn;
 use search_rules::run_rules;
 use solver_arrays::Index;
 use solver_arrays::Near;
@@ -71,8 +70,7 @@ fn ruled(
             universal: v.universal,
             set: set,
         };
-        let t = Turn { c: 0, d: d };
-        return run_rules(near, index, rows, g, t, w).conflict;
+        return run_rules(near, index, rows, g, 0, d, w).conflict;
     }
     0
 }

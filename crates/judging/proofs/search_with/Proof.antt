@@ -33,7 +33,7 @@ run-requires : tie.Need-run-requires
 run-requires c κs =
     let s = c .before .before .before .before .before .before .before .before .pre in
     let t = place-fine _ _ _ _ _ _ (tested (c .before .before .before)) (c .before .enum-told .given .1) in
-    (s .most, fits-more _ _ _ _ _ (t .0) (s .own) (λ i h. refl), t .1, s .range, s .posed)
+    (record { most = s .most; fits = fits-more _ _ _ _ _ (t .0) (s .own) (λ i h. refl); range = s .range; posed = s .posed }, t .1)
 
 verdict-of-requires : tie.Need-verdict-of-requires
 verdict-of-requires c κs = search needs

@@ -31,12 +31,9 @@ winning-values-requires c κs =
     let s = c .before .before .before .before .before .before .before .before .pre in
     let t = place-fine _ _ _ _ _ _ (tested (c .before .before .before)) (c .before .enum-told .given .1) in
     record {
-      most = s .most;
+      start = record { most = s .most; fits = fits-more _ _ _ _ _ (t .0) (s .own) (λ i h. refl); range = s .range; posed = s .posed };
       next = omega (arith, t .1, s .own);
-      fits = fits-more _ _ _ _ _ (t .0) (s .own) (λ i h. refl);
       room = t .2;
-      range = s .range;
-      posed = s .posed;
     }
 
 returns : tie.Need-returns

@@ -13,11 +13,11 @@ use Rattle.search_rules.proofs.check_plays.Statement.{statement}
 use Rattle.search_rules.proofs.check_plays.Tie as tie
 
 abbrev Inv-loop : tie.InvT-loop
-Inv-loop near index rows g w₀ d narrowed₀ x₀ w narrowed x =
+Inv-loop near index rows g c d w₀ narrowed₀ x₀ w narrowed x =
     (x₀ ≤ x) × (x ≤ d) × (length w ≡ length w₀) × ((k : ℕ) → getD w k 0 < 65536) × Nonzero (g .n) w × Checking (g .n) (g .universal) near index rows x₀ d x w₀ w × Narrowed (g .n) x₀ d narrowed w₀ w × (x ≡ x₀ → w ≡ w₀) × (x ≡ x₀ + 1 → Heeded (g .n) (g .universal) near index rows x₀ w₀ w)
 
 abbrev μ-loop : tie.MeasureT-loop
-μ-loop near index rows g w₀ d narrowed₀ x₀ w narrowed x = d - x
+μ-loop near index rows g c d w₀ narrowed₀ x₀ w narrowed x = d - x
 
 loop-holds : tie.Need-loop-holds Inv-loop μ-loop
 loop-holds c = (omega arith, c .before .pre .1, refl, (λ k. omega (arith, c .slice-known .given k)), c .before .pre .5, (λ P st p s. along-start P _ _ _ p _ s), narrowed-none _ _ _ _ _, (λ _. refl), (λ q. absurd (omega arith)))

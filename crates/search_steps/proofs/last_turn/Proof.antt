@@ -15,8 +15,8 @@ use Rattle.search_steps.proofs.last_turn.Tie as tie
 words : (c : tie.After-slice-known) → (k : ℕ) → getD (c .before .args .room .now) k 0 < 65536
 words c k = omega (arith, c .slice-known .given k)
 
-first-broken-requires : tie.Need-first-broken-requires
-first-broken-requires c κs = search needs
+broken-in-requires : tie.Need-broken-in-requires
+broken-in-requires c κs = search needs
 
 copy-leaf-requires : tie.Need-copy-leaf-requires
 copy-leaf-requires c κs = search needs
@@ -29,7 +29,7 @@ returns c =
     let s = c .before .before .before .before .before .before .before .before .pre in
     let e = c .before .before .copy-leaf .ensures in
     let small = words (c .before .before .before .before .before .before .before) in
-    let tells = c .before .before .before .before .before .first-broken .ensures in
+    let tells = c .before .before .before .before .before .broken-in .ensures in
     let none = c .before .before .before .before .if1 .taken in
     record {
       reach = λ P st p t. leaf-reach P _ _ _ _ _ st _ _ _ p _ _ t refl (holds-all P _ _ _ _ _ st _ _ p _ small t _ tells none) (leaf-list _ _ _ (s .0) (s .1) (s .3) e);
@@ -60,7 +60,7 @@ returns-2 c =
     let own = rules (q .problem) (q .states) (q .plays) (plays-in (q .problem) _ _ _ _ _ (q .states) _ _ _ (q .plays) _ small (q .turn)) in
     record {
       reach = λ P st p t. rules-reach P _ _ _ _ _ st _ _ _ p _ _ t refl _ _ (omega (arith, s .1)) (rules P st p (plays-in P _ _ _ _ _ st _ _ _ p _ small t));
-      reply = λ P st p t. last-lost P _ _ _ _ _ st _ _ p _ small t _ (c .before .before .before .before .before .before .before .before .first-broken .ensures) (c .before .before .before .before .before .before .before .if1 .left) _ (c .before .uses .ensures) _ (c .handed .ensures) _;
+      reply = λ P st p t. last-lost P _ _ _ _ _ st _ _ p _ small t _ (c .before .before .before .before .before .before .before .before .broken-in .ensures) (c .before .before .before .before .before .before .before .if1 .left) _ (c .before .uses .ensures) _ (c .handed .ensures) _;
       room = leaves-lost _ _ _ (s .0) (s .1) (s .3) (replied-size own) (replied-behind (s .0) own);
     }
 
@@ -68,7 +68,7 @@ pub last-turn-spec : {M : Type 1} → statement M
 last-turn-spec =
     tie.close
     (tie.spec
-    first-broken-requires
+    broken-in-requires
     copy-leaf-requires
     same-length
     returns

@@ -41,10 +41,10 @@ use Rattle.search_turns.proofs.+existential_turn+universal_turn.{statem
 use Rattle.search_turns.proofs.+existential_turn+universal_turn.Tie.{close}
 
 abbrev μ-existential-turn : Measures 4 existential-turn-kinds.ps ℕ
-μ-existential-turn κs a = a .1 .1 .1 .0 .n - a .1 .1 .1 .1 .0 .d
+μ-existential-turn κs a = a .1 .1 .1 .0 .n - a .1 .1 .1 .1 .1 .0
 
 abbrev μ-universal-turn : Measures 4 universal-turn-kinds.ps ℕ
-μ-universal-turn κs a = a .1 .1 .1 .0 .n - a .1 .1 .1 .1 .0 .d
+μ-universal-turn κs a = a .1 .1 .1 .0 .n - a .1 .1 .1 .1 .1 .0
 
 abbrev existential-turn-at : ℕ → In 4 existential-turn-kinds.ps
 existential-turn-at t = and 4 existential-turn-kinds.ps (is 4 existential-turn-kinds.ps μ-existential-turn t) existential-turn.Pre
@@ -91,16 +91,16 @@ E-calls t = (
 )
 
 abbrev E-Inv : E.InvT-loop
-E-Inv near index rows g room₀ d set j₀ left₀ room j left = SomeLoop (g .n) (g .universal) near index rows (g .set .bits) d (roomOf (g .n) d) room₀ j₀ left₀ room j left
+E-Inv near index rows g c d room₀ set j₀ left₀ room j left = SomeLoop (g .n) (g .universal) near index rows (g .set .bits) d (roomOf (g .n) d) room₀ j₀ left₀ room j left
 
 abbrev E-μ : E.MeasureT-loop
-E-μ near index rows g room₀ d set j₀ left₀ room j left = left
+E-μ near index rows g c d room₀ set j₀ left₀ room j left = left
 
 module _ (t : ℕ) where
   E-after : (c : E.After-enter (E-calls t) (existential-turn-at t) existential-turn.Post E-Inv E-μ) →
       let a = c .before .before .before .before .args in
       let o = c .enter .result in
-      AfterRules (a .g .n) (a .g .universal) (a .near .now) (a .index .now) (a .rows .now) (a .g .set .bits) (a .t .c) (a .t .d) (a .room .now) (c .enter .last .1 .1 .1 .1 .1 .0) (o .lost) (o .conflict) (o .left) (o .narrowed)
+      AfterRules (a .g .n) (a .g .universal) (a .near .now) (a .index .now) (a .rows .now) (a .g .set .bits) (a .c) (a .d) (a .room .now) (c .enter .last .1 .1 .1 .1 .1 .1 .0) (o .lost) (o .conflict) (o .left) (o .narrowed)
   E-after c =
       let s = c .before .before .before .before .pre .1 in
       record { most = s .0; unplayed = s .1; fits = s .3; blank = s .5; stands = s .6; small = λ k. omega (arith, c .before .before .before .slice-known .given k); rules = c .enter .ensures }
@@ -109,7 +109,7 @@ module _ (t : ℕ) where
       let e = c .before .before .before .before .before .before .before .before .before .before in
       let a = e .before .before .before .before .args in
       let l = c .before .before .before .before .loop in
-      Trying (a .g .n) (a .t .d) (e .enter .last .1 .1 .1 .1 .1 .0) (e .enter .result .left) (l .room) (l .left) (c .before .before .lowest .result) (c .hand-down .last .1 .1 .0)
+      Trying (a .g .n) (a .d) (e .enter .last .1 .1 .1 .1 .1 .1 .0) (e .enter .result .left) (l .room) (l .left) (c .before .before .lowest .result) (c .hand-down .last .1 .1 .0)
   E-trying c =
       let l = c .before .before .before .before .loop .inv in
       record { mid = l .mid; less = l .small; part = l .part; more = c .before .before .before .loop-test .taken; lowest = c .before .before .lowest .ensures; down = c .hand-down .ensures }
@@ -117,7 +117,7 @@ module _ (t : ℕ) where
   -- The three turns below meet.
   E-answered : (c : E.Joined2 (E-calls t) (existential-turn-at t) existential-turn.Post E-Inv E-μ) →
       let a = c .before .before .before .before .before .before .before .before .before .before .before .before .before .before .before .before .before .before .args in
-      Answered (a .g .n) (a .g .universal) (a .near .now) (a .index .now) (a .rows .now) (a .g .set .bits) (a .t .d) (c .before .before .before .before .hand-down .last .1 .1 .0) (c .if2 .room) (c .if2 .o)
+      Answered (a .g .n) (a .g .universal) (a .near .now) (a .index .now) (a .rows .now) (a .g .set .bits) (a .d) (c .before .before .before .before .hand-down .last .1 .1 .0) (c .if2 .room) (c .if2 .o)
   E-answered c = ⊎-elim
       (λ w. answered (last-replies _ _ _ _ _ _ _ _ _ (w .0 .taken) _ _ (w .2 .ensures)) (w .5) (w .6))
       (⊎-elim (λ w. answered (w .4 .ensures) (w .7) (w .8)) (λ w. answered (w .4 .ensures) (w .7) (w .8)))
@@ -154,16 +154,16 @@ U-calls t = (
 )
 
 abbrev U-Inv : U.InvT-loop
-U-Inv near index rows g room₀ d set left₀ room left = EachLoop (g .n) (g .universal) near index rows (g .set .bits) d (roomOf (g .n) d) room₀ left₀ room left
+U-Inv near index rows g c d room₀ set left₀ room left = EachLoop (g .n) (g .universal) near index rows (g .set .bits) d (roomOf (g .n) d) room₀ left₀ room left
 
 abbrev U-μ : U.MeasureT-loop
-U-μ near index rows g room₀ d set left₀ room left = 16 - first 16 (bit left)
+U-μ near index rows g c d room₀ set left₀ room left = 16 - first 16 (bit left)
 
 module _ (t : ℕ) where
   U-after : (c : U.After-enter (U-calls t) (universal-turn-at t) universal-turn.Post U-Inv U-μ) →
       let a = c .before .before .before .before .args in
       let o = c .enter .result in
-      AfterRules (a .g .n) (a .g .universal) (a .near .now) (a .index .now) (a .rows .now) (a .g .set .bits) (a .t .c) (a .t .d) (a .room .now) (c .enter .last .1 .1 .1 .1 .1 .0) (o .lost) (o .conflict) (o .left) (o .narrowed)
+      AfterRules (a .g .n) (a .g .universal) (a .near .now) (a .index .now) (a .rows .now) (a .g .set .bits) (a .c) (a .d) (a .room .now) (c .enter .last .1 .1 .1 .1 .1 .1 .0) (o .lost) (o .conflict) (o .left) (o .narrowed)
   U-after c =
       let s = c .before .before .before .before .pre .1 in
       record { most = s .0; unplayed = s .1; fits = s .3; blank = s .5; stands = s .6; small = λ k. omega (arith, c .before .before .before .slice-known .given k); rules = c .enter .ensures }
@@ -172,7 +172,7 @@ module _ (t : ℕ) where
       let e = c .before .before .before .before .before .before .before .before in
       let a = e .before .before .before .before .args in
       let l = c .before .before .before .before .loop in
-      Trying (a .g .n) (a .t .d) (e .enter .last .1 .1 .1 .1 .1 .0) (e .enter .result .left) (l .room) (l .left) (c .before .before .lowest .result) (c .hand-down .last .1 .1 .0)
+      Trying (a .g .n) (a .d) (e .enter .last .1 .1 .1 .1 .1 .1 .0) (e .enter .result .left) (l .room) (l .left) (c .before .before .lowest .result) (c .hand-down .last .1 .1 .0)
   U-trying c =
       let l = c .before .before .before .before .loop .inv in
       record { mid = l .mid; less = l .small; part = l .part; more = c .before .before .before .loop-test .taken; lowest = c .before .before .lowest .ensures; down = c .hand-down .ensures }
@@ -180,7 +180,7 @@ module _ (t : ℕ) where
   -- The three turns below meet.
   U-answered : (c : U.Joined2 (U-calls t) (universal-turn-at t) universal-turn.Post U-Inv U-μ) →
       let a = c .before .before .before .before .before .before .before .before .before .before .before .before .before .before .before .before .args in
-      Answered (a .g .n) (a .g .universal) (a .near .now) (a .index .now) (a .rows .now) (a .g .set .bits) (a .t .d) (c .before .before .before .before .hand-down .last .1 .1 .0) (c .if2 .room) (c .if2 .o)
+      Answered (a .g .n) (a .g .universal) (a .near .now) (a .index .now) (a .rows .now) (a .g .set .bits) (a .d) (c .before .before .before .before .hand-down .last .1 .1 .0) (c .if2 .room) (c .if2 .o)
   U-answered c = ⊎-elim
       (λ w. answered (last-replies _ _ _ _ _ _ _ _ _ (w .0 .taken) _ _ (w .2 .ensures)) (w .5) (w .6))
       (⊎-elim (λ w. answered (w .4 .ensures) (w .7) (w .8)) (λ w. answered (w .4 .ensures) (w .7) (w .8)))

@@ -12,7 +12,7 @@ use Rattle.marking.proofs.values.wins_with.Statement.{statement}
 use Rattle.marking.proofs.values.wins_with.Tie as tie
 
 -- The places of the position.
-long : (s : tie.Start) → length (s .args .p .values) ≡ 32
+long : (s : tie.Start) → length (s .args .s .position .values) ≡ 32
 long s = search needs
 
 cast-pushed : tie.Need-cast-pushed
@@ -23,15 +23,17 @@ pushed-requires c κs = search needs
 
 run-requires : tie.Need-run-requires
 run-requires c κs =
-    let s = c .before .before .before in
+    let s = c .before .before .before .before .before .before in
     let p = s .pre .0 in
-    let o = p .posed .poses in (
-      p .most,
-      subst (λ (q : Position). T (fitsIn q (s .args .v .n) (s .args .v .domains))) (sym (c .before .pushed .ensures))
-          (pushed-fits _ _ _ (p .fits) (p .most) (long s) (p .next) _ (p .posed .problem) (o .states .size) (o .domain) (s .pre .2)),
+    let o = p .start .posed .poses in (
+      record {
+        most = p .start .most;
+        fits = subst (λ (q : Position). T (fitsIn q (s .args .s .variables .n) (s .args .s .variables .domains))) (sym (c .before .pushed .ensures))
+            (pushed-fits _ _ _ (p .start .fits) (p .start .most) (long s) (p .next) _ (p .start .posed .problem) (o .states .size) (o .domain) (s .pre .2));
+        range = p .start .range;
+        posed = p .start .posed;
+      },
       p .room,
-      p .range,
-      p .posed,
     )
 
 same-length : tie.Need-same-length
@@ -39,11 +41,11 @@ same-length c = search needs
 
 returns : tie.Need-returns
 returns c =
-    let s = c .before .before .before .before .before .before in
+    let s = c .before .before .before .before .before .before .before .before .before in
     let p = s .pre .0 in
     let r = c .before .before .run .ensures in (
       λ P o. r .0 P o .won
-          ∙ ap (λ (l : List ℕ). is-solved (searchFrom P (s .args .set .bits) l)) (ap playsOf (c .before .before .before .before .pushed .ensures) ∙ plays-pushed _ _ _ (p .fits) (p .most) (long s) (p .next) _),
+          ∙ ap (λ (l : List ℕ). is-solved (searchFrom P (s .args .s .set .bits) l)) (ap playsOf (c .before .before .before .before .pushed .ensures) ∙ plays-pushed _ _ _ (p .start .fits) (p .start .most) (long s) (p .next) _),
       r .1,
     )
 
