@@ -24,13 +24,12 @@ use Rattle.file_decoder.proofs.ReadLaws.{read-refused, read-fine}
 use Rattle.refusal.specs.Replied.{repliedFor, listFor}
 use Rattle.refusal.proofs.RepliedLaws.{list-refused, list-left}
 use Rattle.solver_arrays.specs.declared.Variables.{Variables}
-use Rattle.solver_arrays.specs.Arrays.{Poses}
 use Rattle.position.specs.declared.Position.{Position}
 use Rattle.position.specs.Position.{playsOf}
 use Rattle.position.proofs.Fitting.{fits-legal}
 use Rattle.search_words.specs.TurnRoom.{zeroed}
 use Rattle.search_run.specs.declared.Ran.{Ran}
-use Rattle.search_run.specs.Run.{roomWords, roomNeeded, Searchable, Finds}
+use Rattle.search_run.specs.Run.{roomWords, roomNeeded, Searchable, Finds, Runs}
 use Rattle.judging.specs.declared.Judged.the-variants.{Won, Lost, Refused, RefusedAt}
 use Rattle.judging.specs.declared.Searched.{Searched}
 use Rattle.judging.specs.Tests.{judgeTest, placeTest}
@@ -88,7 +87,7 @@ module _ (v : Variables) (near index rows : List ℕ) (n : ℕ) (p : Position) (
   pub places-refused : (e q : ℕ) (r : Searched) → t ≡ Not e q → found r ≡ nothing (told (Refused e)) → Places v near index rows n p set w w r
   places-refused e q r z f = λ P o. (none-found r e f ∙ found-refused t _ e q _ z tested, list-refused t _ e q _ w z tested)
 
-  pub places-ran : (r : Ran) (s : Searched) (w' : List ℕ) → t ≡ Fine → ((P : Problem) → Poses P v near index rows → Finds P set p r) → w' ≡ zeroed 0 (roomWords (v .n)) w
+  pub places-ran : (r : Ran) (s : Searched) (w' : List ℕ) → t ≡ Fine → Runs v near index rows set p r → w' ≡ zeroed 0 (roomWords (v .n)) w
       → told (s .judged) ≡ replied (cond (r .won) 1 0 ∷ []) → s .loss ≡ r .loss → s .list ≡ r .list → s .conflict ≡ r .conflict → s .leaf ≡ r .leaf
       → Places v near index rows n p set w w' s
   places-ran r s w' z f g a b c d e = λ P o. (found-fine t _ _ _ z tested (ran-found P set p r (f P o) s a b c d e), list-left t _ w' _ w z tested g)

@@ -22,9 +22,10 @@ use Rattle.game.specs.Lists.{domains}
 use Rattle.game.specs.Search.{is-solved, searchFrom, markedValues}
 use Rattle.search_words.specs.TurnRoom.{zeroed}
 use Rattle.search_words.proofs.RoomLaws.{length-zeroed, zeroed-at, zeroed-other}
+use Rattle.solver_arrays.specs.declared.Variables.{Variables}
 use Rattle.solver_arrays.specs.Arrays.{Poses, Posed}
+use Rattle.position.specs.declared.Position.{Position}
 use Rattle.position.specs.Position.{playsOf, fitsIn}
-use Rattle.search_run.specs.declared.Start.{Start}
 use Rattle.position.proofs.Fitting.{length-plays}
 use Rattle.marking.specs.Marks.{WinsWith, Wins, withValue}
 
@@ -52,18 +53,18 @@ zeroed-twice k w h =
     (λ b. zeroed-other 0 k (zeroed 0 k w) i (inr b))
 
 -- The values looked at are in `won` exactly if they win. The room is zero where one was looked at.
-pub record Marking (start : Start) (near index rows : List ℕ) (k : ℕ) (room₀ : List ℕ) (m : ℕ) (room : List ℕ) (won left : ℕ) : Type 0 where
+pub record Marking (v : Variables) (near index rows : List ℕ) (S : ℕ) (p : Position) (k : ℕ) (room₀ : List ℕ) (m : ℕ) (room : List ℕ) (won left : ℕ) : Type 0 where
   pub size : length room ≡ length room₀
   pub zero : zeroed 0 k room ≡ zeroed 0 k room₀
   pub used : ¬ (left ≡ m) → room ≡ zeroed 0 k room₀
   pub small : left < 2 ^ 16
   pub few : won < 2 ^ 16
   pub part : (a : ℕ) → T (bit left a) → T (bit m a)
-  pub found : (P : Problem) → Poses P (start .variables) near index rows → (b : ℕ) → b < 16
-      → bit won b ≡ ((bit m b && not (bit left b)) && is-solved (searchFrom P (start .set .bits) (playsOf (start .position) ++ (b ∷ []))))
+  pub found : (P : Problem) → Poses P v near index rows → (b : ℕ) → b < 16
+      → bit won b ≡ ((bit m b && not (bit left b)) && is-solved (searchFrom P S (playsOf p ++ (b ∷ []))))
 
-module _ (start : Start) (near index rows : List ℕ) (k : ℕ) (room₀ : List ℕ) (m : ℕ) where
-  pub marking-start : m < 2 ^ 16 → Marking start near index rows k room₀ m room₀ 0 m
+module _ (v : Variables) (near index rows : List ℕ) (S : ℕ) (p : Position) (k : ℕ) (room₀ : List ℕ) (m : ℕ) where
+  pub marking-start : m < 2 ^ 16 → Marking v near index rows S p k room₀ m room₀ 0 m
   marking-start l = record {
     size = refl;
     zero = refl;
@@ -71,23 +72,23 @@ module _ (start : Start) (near index rows : List ℕ) (k : ℕ) (room₀ : List 
     small = l;
     few = omega arith;
     part = λ a h. h;
-    found = λ P o b h. bit-of-zero b ∙ none (bit m b) (is-solved (searchFrom P (start .set .bits) (playsOf (start .position) ++ (b ∷ []))));
+    found = λ P o b h. bit-of-zero b ∙ none (bit m b) (is-solved (searchFrom P S (playsOf p ++ (b ∷ []))));
   }
     where
       none : (x s : Bool) → false ≡ ((x && not x) && s)
       none true s = refl
       none false s = refl
 
-  module _ {room : List ℕ} {won left : ℕ} (l : Marking start near index rows k room₀ m room won left) where
+  module _ {room : List ℕ} {won left : ℕ} (l : Marking v near index rows S p k room₀ m room won left) where
     -- The lowest value left.
     pub marking-at : ¬ (left ≡ 0) → (a : ℕ) → a ≡ first 16 (bit left) → (a < 16) × T (bit m a)
     marking-at z a e = (omega (arith, e, low-lt 16 left (l .small) z), l .part a (subst (λ i. T (bit left i)) (sym e) (low-in 16 left (l .small) z)))
 
     -- One value more.
-    pub marking-next : ¬ (left ≡ 0) → (a : ℕ) → a ≡ first 16 (bit left) → (w : Bool) → WinsWith start near index rows a w
+    pub marking-next : ¬ (left ≡ 0) → (a : ℕ) → a ≡ first 16 (bit left) → (w : Bool) → WinsWith v near index rows S p a w
         → (room' : List ℕ) → room' ≡ zeroed 0 k room → k ≤ length room₀
         → (won' left' : ℕ) → won' ≡ withValue won a w → left' ≡ rest left
-        → Marking start near index rows k room₀ m room' won' left'
+        → Marking v near index rows S p k room₀ m room' won' left'
     marking-next z a e w f room' r fits won' left' g h =
         let below : a < 16 = omega (arith, e, low-lt 16 left (l .small) z) in
         let here : T (bit left a) = subst (λ i. T (bit left i)) (sym e) (low-in 16 left (l .small) z) in
@@ -102,13 +103,13 @@ module _ (start : Start) (near index rows : List ℕ) (k : ℕ) (room₀ : List 
           found = λ P o b c.
               ap (λ x. bit x b) g ∙ bit-withValue won a w b ∙ ap (λ x. x || (w && eqb b a)) (l .found P o b c)
               ∙ by-eq b a
-              (λ q. ap₂ (λ x y. ((bit m b && not x) && is-solved (searchFrom P (start .set .bits) (playsOf (start .position) ++ (b ∷ [])))) || (w && y)) (ap (bit left) q ∙ holds here) (eq-eqb b a q)
-              ∙ now (bit m b) w (is-solved (searchFrom P (start .set .bits) (playsOf (start .position) ++ (b ∷ [])))) (ap (bit m) q ∙ holds (l .part a here)) (f P o ∙ ap (λ y. is-solved (searchFrom P (start .set .bits) (playsOf (start .position) ++ (y ∷ [])))) (sym q))
-              ∙ ap (λ x. (bit m b && not x) && is-solved (searchFrom P (start .set .bits) (playsOf (start .position) ++ (b ∷ []))))
+              (λ q. ap₂ (λ x y. ((bit m b && not x) && is-solved (searchFrom P S (playsOf p ++ (b ∷ [])))) || (w && y)) (ap (bit left) q ∙ holds here) (eq-eqb b a q)
+              ∙ now (bit m b) w (is-solved (searchFrom P S (playsOf p ++ (b ∷ [])))) (ap (bit m) q ∙ holds (l .part a here)) (f P o ∙ ap (λ y. is-solved (searchFrom P S (playsOf p ++ (y ∷ [])))) (sym q))
+              ∙ ap (λ x. (bit m b && not x) && is-solved (searchFrom P S (playsOf p ++ (b ∷ []))))
               (sym (ap (λ x. bit x b) h ∙ bit-rest 16 left (l .small) z b ∙ ap₂ (λ x y. x && not y) (ap (bit left) q ∙ holds here) (eq-eqb b (first 16 (bit left)) (q ∙ e)))))
-              (λ q. ap (λ y. ((bit m b && not (bit left b)) && is-solved (searchFrom P (start .set .bits) (playsOf (start .position) ++ (b ∷ [])))) || (w && y)) (ne-eqb b a q)
-              ∙ same-else ((bit m b && not (bit left b)) && is-solved (searchFrom P (start .set .bits) (playsOf (start .position) ++ (b ∷ [])))) w
-              ∙ ap (λ x. (bit m b && not x) && is-solved (searchFrom P (start .set .bits) (playsOf (start .position) ++ (b ∷ []))))
+              (λ q. ap (λ y. ((bit m b && not (bit left b)) && is-solved (searchFrom P S (playsOf p ++ (b ∷ [])))) || (w && y)) (ne-eqb b a q)
+              ∙ same-else ((bit m b && not (bit left b)) && is-solved (searchFrom P S (playsOf p ++ (b ∷ [])))) w
+              ∙ ap (λ x. (bit m b && not x) && is-solved (searchFrom P S (playsOf p ++ (b ∷ []))))
               (sym (ap (λ x. bit x b) h ∙ bit-rest 16 left (l .small) z b ∙ ap (λ y. bit left b && not y) (ne-eqb b (first 16 (bit left)) (λ i. q (i ∙ sym e))) ∙ and-true (bit left b))));
         }
       where
@@ -127,22 +128,22 @@ module _ (start : Start) (near index rows : List ℕ) (k : ℕ) (room₀ : List 
         and-true false = refl
 
     -- All values looked at: there is one.
-    pub marking-room : left ≡ 0 → m ≡ getD (start .variables .domains) (start .position .plays) 0 → Posed (start .variables) near index rows → start .position .plays < start .variables .n → room ≡ zeroed 0 k room₀
+    pub marking-room : left ≡ 0 → m ≡ getD (v .domains) (p .plays) 0 → Posed v near index rows → p .plays < v .n → room ≡ zeroed 0 k room₀
     marking-room z e s h =
         let P = s .problem in
         let q = s .poses .states .size in
-        l .used λ o. P .nonempty (start .position .plays) (omega arith) (ap (λ (l : List ℕ). getD l (start .position .plays) 0) (s .poses .domain) ∙ getD-take (start .variables .n) (start .variables .domains) (start .position .plays) 0 h ∙ sym e ∙ sym o ∙ z)
+        l .used λ o. P .nonempty (p .plays) (omega arith) (ap (λ (l : List ℕ). getD l (p .plays) 0) (s .poses .domain) ∙ getD-take (v .n) (v .domains) (p .plays) 0 h ∙ sym e ∙ sym o ∙ z)
 
-    pub marking-end : left ≡ 0 → m ≡ getD (start .variables .domains) (start .position .plays) 0 → start .variables .n ≤ 32 → T (fitsIn (start .position) (start .variables .n) (start .variables .domains)) → length (start .position .values) ≡ 32 → start .position .plays < start .variables .n → Wins start near index rows won m
+    pub marking-end : left ≡ 0 → m ≡ getD (v .domains) (p .plays) 0 → v .n ≤ 32 → T (fitsIn p (v .n) (v .domains)) → length (p .values) ≡ 32 → p .plays < v .n → Wins v near index rows S p won m
     unfolding markedValues domains
     marking-end z e b t s h P o =
-        let j = length-plays (start .position) (start .variables .n) (start .variables .domains) t b s in
-        let d : m ≡ getD (P .domain) (start .position .plays) 0 = e ∙ sym (ap (λ (l : List ℕ). getD l (start .position .plays) 0) (o .domain) ∙ getD-take (start .variables .n) (start .variables .domains) (start .position .plays) 0 h) in (
+        let j = length-plays p (v .n) (v .domains) t b s in
+        let d : m ≡ getD (P .domain) (p .plays) 0 = e ∙ sym (ap (λ (l : List ℕ). getD l (p .plays) 0) (o .domain) ∙ getD-take (v .n) (v .domains) (p .plays) 0 h) in (
           bit-ext 16 won _ (l .few) (maskOf-lt 16 _) (λ i c. l .found P o i c
-              ∙ ap (λ x. (bit m i && not x) && is-solved (searchFrom P (start .set .bits) (playsOf (start .position) ++ (i ∷ [])))) (ap (λ x. bit x i) z ∙ bit-of-zero i)
-              ∙ all (bit m i) (is-solved (searchFrom P (start .set .bits) (playsOf (start .position) ++ (i ∷ []))))
-              ∙ ap (λ x. bit x i && is-solved (searchFrom P (start .set .bits) (playsOf (start .position) ++ (i ∷ [])))) (d ∙ ap (λ k. getD (P .domain) k 0) (sym j))
-              ∙ sym (bit-maskOf 16 (λ a. bit (getD (P .domain) (length (playsOf (start .position))) 0) a && is-solved (searchFrom P (start .set .bits) (playsOf (start .position) ++ (a ∷ [])))) i c)),
+              ∙ ap (λ x. (bit m i && not x) && is-solved (searchFrom P S (playsOf p ++ (i ∷ [])))) (ap (λ x. bit x i) z ∙ bit-of-zero i)
+              ∙ all (bit m i) (is-solved (searchFrom P S (playsOf p ++ (i ∷ []))))
+              ∙ ap (λ x. bit x i && is-solved (searchFrom P S (playsOf p ++ (i ∷ [])))) (d ∙ ap (λ k. getD (P .domain) k 0) (sym j))
+              ∙ sym (bit-maskOf 16 (λ a. bit (getD (P .domain) (length (playsOf p)) 0) a && is-solved (searchFrom P S (playsOf p ++ (a ∷ [])))) i c)),
           d,
         )
       where

@@ -23,7 +23,6 @@ use Rattle.game.specs.Search.{markedValues}
 use Rattle.game.specs.Winning.{winningValues}
 use Rattle.theory.proofs.Theorems.{marks-are}
 use Rattle.solver_arrays.specs.declared.Variables.{Variables}
-use Rattle.solver_arrays.specs.Arrays.{Poses}
 use Rattle.file_decoder.specs.FileProblem.{problemOf, ordinaryOf}
 use Rattle.file_decoder.specs.Decoded.{FileGiven}
 use Rattle.file_decoder.proofs.FileLaws.{problem-size}
@@ -38,6 +37,7 @@ use Rattle.judging.proofs.TestLaws.{room-fine, position-same}
 use Rattle.judging.proofs.JudgeLaws.{own-domain}
 use Rattle.marking.specs.declared.Marked.{Marked}
 use Rattle.marking.specs.declared.Marked.the-variants.{Values, Refused}
+use Rattle.marking.specs.Marks.{Wins}
 use Rattle.marking.specs.Marking.{told, markTest, markPlaceTest, markReply, markRoom, markTold, markLeft, MarksBy, MarksWith, MarksIn}
 
 -- The room needed by its number.
@@ -84,7 +84,7 @@ module _ (v : Variables) (near index rows : List ℕ) (n : ℕ) (p : Position) (
   unfolding told
   marks-refused e q z = λ P o. (reply-refused t _ e q _ z tested, list-refused t _ e q _ w z tested)
 
-  pub marks-told : (winning domain : ℕ) (w' : List ℕ) → t ≡ Fine → ((P : Problem) → Poses P v near index rows → (winning ≡ markedValues P set (playsOf p)) × (domain ≡ getD (P .domain) (p .plays) 0)) → w' ≡ zeroed 0 (roomWords (v .n)) w
+  pub marks-told : (winning domain : ℕ) (w' : List ℕ) → t ≡ Fine → Wins v near index rows set p winning domain → w' ≡ zeroed 0 (roomWords (v .n)) w
       → MarksWith v near index rows n p set w w' (Values winning domain)
   unfolding told
   marks-told winning domain w' z f e = λ P o. (reply-told t _ _ _ z tested (ap₂ (λ a b. a ∷ b ∷ []) (f P o .0) (f P o .1)), list-left t _ w' _ w z tested e)

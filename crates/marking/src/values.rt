@@ -27,7 +27,7 @@ pub struct Marks {
 fn wins_with(near: &Near, index: &Index, rows: &Rows, s: Start, a: usize, room: &mut [u16]) -> bool
     requires { ⌜ Asked s (now near) (now index) (now rows) (now room) × (a < 16)
         × T (bit (getD (s .variables .domains) (s .position .plays) 0) a) ⌝ }
-    ensures { λ r. ⌜ WinsWith s (now (near .entry)) (now (index .entry)) (now (rows .entry)) a r
+    ensures { λ r. ⌜ WinsWith (s .variables) (now (near .entry)) (now (index .entry)) (now (rows .entry)) (s .set .bits) (s .position) a r
         × (now (room .exit) ≡ zeroed 0 (roomWords (s .variables .n)) (now (room .entry))) ⌝ }
 {
     let v = s.variables;
@@ -60,7 +60,8 @@ fn next_domain(domains: &[u16; 32], d: usize) -> u16
 // The values of the next variable that win, and its domain.
 pub fn winning_values(near: &Near, index: &Index, rows: &Rows, s: Start, room: &mut [u16]) -> Marks
     requires { ⌜ Asked s (now near) (now index) (now rows) (now room) ⌝ }
-    ensures { λ r. ⌜ Wins s (now (near .entry)) (now (index .entry)) (now (rows .entry)) (r .winning) (r .domain)
+    ensures { λ r. ⌜ Wins (s .variables) (now (near .entry)) (now (index .entry)) (now (rows .entry)) (s .set .bits) (s .position)
+        (r .winning) (r .domain)
         × (now (room .exit) ≡ zeroed 0 (roomWords (s .variables .n)) (now (room .entry))) ⌝ }
 {
     let domains = s.variables.domains;

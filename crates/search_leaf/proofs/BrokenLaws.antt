@@ -20,7 +20,7 @@ use Rattle.game.specs.Game.{satisfied}
 use Rattle.game.specs.Position.{playOf}
 use Rattle.game.specs.Search.{broken, firstBroken}
 use Rattle.solver_arrays.specs.Arrays.{rowIn, States}
-use Rattle.search_leaf.specs.Leaf.{clashes, firstClash, Plays}
+use Rattle.search_leaf.specs.Leaf.{clashes, firstClash, Plays, brokenMask}
 use Rattle.search_leaf.proofs.LeafWords.{value-of-play}
 
 -- A mask misses a value where it does not hold it.
@@ -123,7 +123,7 @@ module _ (P : Problem) (n u : ℕ) (near index rows : List ℕ) (S : States P n 
   -- The first variable with a clash: the play is not satisfied, and these are the two variables.
   pub told-broken :
       (x y : ℕ) → x < n → Passed x → y ≡ firstClash near index rows w x → y < 32
-      → bitOr (2 ^ x) (2 ^ y) ≡ cond (satisfied (P .compatible) n (playOf p)) 0 (firstBroken P p)
+      → bitOr (2 ^ x) (2 ^ y) ≡ brokenMask P n p
   unfolding firstBroken
   told-broken x y h o e l =
       let r = clash-broken x h (omega arith) in
@@ -137,7 +137,7 @@ module _ (P : Problem) (n u : ℕ) (near index rows : List ℕ) (S : States P n 
       sym (ap (λ s. cond s 0 (firstBroken P p)) (unsatisfied x y k b) ∙ ap (λ x. bitOr (2 ^ x) (2 ^ first (P .n) (broken P p x))) g ∙ ap (λ y. bitOr (2 ^ x) (2 ^ y)) f)
 
   -- No variable has one.
-  pub told-none : Passed n → 0 ≡ cond (satisfied (P .compatible) n (playOf p)) 0 (firstBroken P p)
+  pub told-none : Passed n → 0 ≡ brokenMask P n p
   told-none o =
       let s : satisfied (P .compatible) n (playOf p) ≡ true = holds (satisfied-all λ x y h k. clash-least x h y (let m = S .most in let q = o x h in omega arith) k) in
       sym (ap (λ s. cond s 0 (firstBroken P p)) s)

@@ -36,10 +36,14 @@ pub record Plays (n : ℕ) (w p : List ℕ) : Type 0 where
   pub small : (j : ℕ) → j < n → getD p j 0 < 16
   pub word : (j : ℕ) → j < n → getD w j 0 ≡ 2 ^ getD p j 0
 
--- The mask r is 0 where the play satisfies every constraint, else the two variables of the first broken one, in every problem that the arrays state.
+-- 0 where the play p of n variables satisfies every constraint, else the mask of the two variables of the first broken one.
+abbrev pub brokenMask : Problem → ℕ → List ℕ → ℕ
+brokenMask P n p = cond (satisfied (P .compatible) n (playOf p)) 0 (firstBroken P p)
+
+-- The mask r is this one for the play that the words hold, in every problem that the arrays state.
 abbrev pub Tells : List ℕ → List ℕ → List ℕ → ℕ → List ℕ → ℕ → Type 0
 Tells near index rows n w r =
-    (P : Problem) (u : ℕ) (p : List ℕ) → States P n u near index rows → Plays n w p → r ≡ cond (satisfied (P .compatible) n (playOf p)) 0 (firstBroken P p)
+    (P : Problem) (u : ℕ) (p : List ℕ) → States P n u near index rows → Plays n w p → r ≡ brokenMask P n p
 
 -- The words w with the values of the first n variables as leaf.
 unfoldable pub withLeaf : ℕ → List ℕ → List ℕ

@@ -58,6 +58,6 @@ pub record Startable (s : Start) (near index rows : List ℕ) : Type 0 where
   pub range : InRange index
   pub posed : Posed (s .variables) near index rows
 
--- In every problem that the arrays state over the variables, the run r finds this.
-abbrev pub Runs : (s : Start) (near index rows : List ℕ) (r : Ran) → Type 0
-Runs s near index rows r = (P : Problem) → Poses P (s .variables) near index rows → Finds P (s .set .bits) (s .position) r
+-- In every problem that the arrays state over the variables v.
+abbrev pub Runs : (v : Variables) (near index rows : List ℕ) (S : ℕ) (p : Position) (r : Ran) → Type 0
+Runs v near index rows S p r = (P : Problem) → Poses P v near index rows → Finds P S p r

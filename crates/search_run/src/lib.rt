@@ -64,7 +64,8 @@ fn conflict_of(o: Outcome) -> u32
 fn run_in(near: &Near, index: &Index, rows: &Rows, s: Start, room: &mut [u16]) -> Ran
     requires { ⌜ Startable s (now near) (now index) (now rows) × (roomOf (s .variables .n) (s .position .plays) ≤ length (now room))
         × ZeroBelow (roomOf (s .variables .n) (s .position .plays)) (now room) ⌝ }
-    ensures { λ r. ⌜ Runs s (now (near .entry)) (now (index .entry)) (now (rows .entry)) r × (now (room .exit) ≡ now (room .entry)) ⌝ }
+    ensures { λ r. ⌜ Runs (s .variables) (now (near .entry)) (now (index .entry)) (now (rows .entry)) (s .set .bits) (s .position) r
+        × (now (room .exit) ≡ now (room .entry)) ⌝ }
 {
     let v = s.variables;
     let set = s.set;
@@ -95,7 +96,7 @@ fn run_in(near: &Near, index: &Index, rows: &Rows, s: Start, room: &mut [u16]) -
 // The search from a start. Whatever the first words of the room are, they are zero afterwards.
 pub fn run(near: &Near, index: &Index, rows: &Rows, s: Start, room: &mut [u16]) -> Ran
     requires { ⌜ Startable s (now near) (now index) (now rows) × (roomWords (s .variables .n) ≤ length (now room)) ⌝ }
-    ensures { λ r. ⌜ Runs s (now (near .entry)) (now (index .entry)) (now (rows .entry)) r
+    ensures { λ r. ⌜ Runs (s .variables) (now (near .entry)) (now (index .entry)) (now (rows .entry)) (s .set .bits) (s .position) r
         × (now (room .exit) ≡ zeroed 0 (roomWords (s .variables .n)) (now (room .entry))) ⌝ }
 {
     let n = s.variables.n;

@@ -20,7 +20,7 @@ use Rattle.theory.proofs.Quiet.{turn-unbroken}
 use Rattle.solver_arrays.specs.Arrays.{States}
 use Rattle.solver_arrays.specs.Words.{listIn, whyIn, leafIn}
 use Rattle.solver_arrays.proofs.WordLaws.{length-listIn, getD-listIn}
-use Rattle.search_leaf.specs.Leaf.{Plays, withLeaf}
+use Rattle.search_leaf.specs.Leaf.{Plays, brokenMask, withLeaf}
 use Rattle.search_leaf.proofs.BrokenLaws.{broken-some}
 use Rattle.search_leaf.proofs.LeafWords.{length-withLeaf, withLeaf-other, leaf-small, leaf-of-play}
 use Rattle.search_steps.specs.TurnReply.{replyIn, roomOf, TurnIn, TellsBroken, Blank, Leaves}
@@ -46,7 +46,7 @@ module _ (P : Problem) (n universal : ℕ) (near index rows : List ℕ) (st : St
   }
 
   -- None is broken below a turn with rule 1.
-  pub skipped-told : uses S 1 ≡ true → ¬ (c ≡ 0) → 0 ≡ cond (satisfied (P .compatible) n (playOf p)) 0 (firstBroken P p)
+  pub skipped-told : uses S 1 ≡ true → ¬ (c ≡ 0) → 0 ≡ brokenMask P n p
   skipped-told one z =
       let all = turn-unbroken P S (turn .plays) (turn .legal-start) c p (listIn n w) (whyIn n w) (turn .turn) one z (turn .count ∙ sym (st .size)) in
       ap (λ (b : Bool). cond b 0 (firstBroken P p)) (sym (holds {b = satisfied (P .compatible) n (playOf p)} (subst (λ k. T (satisfied (P .compatible) k (playOf p))) (st .size) all)))
@@ -60,7 +60,7 @@ module _ (P : Problem) (n universal : ℕ) (near index rows : List ℕ) (st : St
       ∙ ap (λ k. cond (satisfied (P .compatible) k (playOf p)) (solved p) (failed (handed (uses S 6) k (firstBroken P p)))) (st .size)
 
   module _ (broken : ℕ) (tells : TellsBroken n universal near index rows S c w broken) where
-    told : broken ≡ cond (satisfied (P .compatible) n (playOf p)) 0 (firstBroken P p)
+    told : broken ≡ brokenMask P n p
     told = tells P st p turn
 
     -- No constraint is broken.

@@ -7,13 +7,13 @@ use Prim.Native.Nat.{ℕ, _+_, _-_, _*_, _≤_, _<_}
 use lib.Dec.{T}
 use lib.ListN.{getD, length}
 use Rattle.game.specs.Problem.{Problem}
-use Rattle.game.specs.Game.{satisfied}
-use Rattle.game.specs.Position.{legal, playOf}
+use Rattle.game.specs.Position.{legal}
 use Rattle.game.specs.Turn.{reached}
-use Rattle.game.specs.Search.{Ending, solved, failed, firstBroken, search}
+use Rattle.game.specs.Search.{Ending, solved, failed, search}
 use Rattle.game.specs.Turns.{TurnOf}
 use Rattle.solver_arrays.specs.Arrays.{States}
 use Rattle.solver_arrays.specs.Words.{listIn, whyIn, leafIn}
+use Rattle.search_leaf.specs.Leaf.{brokenMask}
 use Rattle.search_words.specs.TurnSets.{ReasonsBelow}
 use Rattle.search_steps.specs.declared.Outcome.{Outcome}
 
@@ -61,10 +61,10 @@ module _ (n universal : ℕ) (near index rows : List ℕ) where
     pub plays : List ℕ
     pub turn : TurnIn problem n S c d plays w
 
-  -- At the last turn, the mask r is 0 where the play satisfies every constraint, else the two variables of the first broken one.
+  -- At the last turn, the mask r says which constraint the play breaks first, or none.
   abbrev pub TellsBroken : (S c : ℕ) (w : List ℕ) (r : ℕ) → Type 0
   TellsBroken S c w r = (P : Problem) → States P n universal near index rows → (p : List ℕ) → TurnIn P n S c n p w
-      → r ≡ cond (satisfied (P .compatible) n (playOf p)) 0 (firstBroken P p)
+      → r ≡ brokenMask P n p
 
   -- What a turn replies and leaves, for every problem that the arrays state and all plays of a turn that the words hold.
   pub record TurnReplies (S c d : ℕ) (w w' : List ℕ) (o : Outcome) : Type 0 where

@@ -7,7 +7,7 @@ use native.Mathlib.Omega.{arith}
 use lib.Dec.{T, eqb, ltb}
 use lib.ListN.{getD, length, set}
 use lib.Seq.{getD-set-same, getD-set-other}
-use borrow.Author.Tests.{eq-eqb, eqb-true, lt-ltb, le-ltb}
+use borrow.Author.Tests.{eq-eqb, eqb-true, lt-ltb, le-ltb, not-false}
 use Rattle.mask.specs.Range.{some, each}
 use Rattle.mask.specs.Mask.{bit}
 use Rattle.mask.proofs.Logic.{same, holds, true-holds, fails, clash, test, by-eq}
@@ -267,13 +267,9 @@ module _ (P : Problem) where
       unclashed : clashes P D x a y ≡ false → T (compatible x a y b)
       unclashed e = test (compatible x a y b) (λ t. t) (λ f. absurd (clash e (some-in 16 (D y) (λ v. not (compatible x a y v)) b lb at-y (true-holds (ap not f)))))
 
-      found : (s : Bool) → not s ≡ false → T s
-      found true e = tt
-      found false e = true-holds (sym e)
-
       joined : alone P D x a y ≡ false → T (compatible x a y b)
       joined e =
-          let r = some-out 16 (D y) (λ v. compatible x a y v) (found (some 16 (D y) (λ v. compatible x a y v)) e) in
+          let r = some-out 16 (D y) (λ v. compatible x a y v) (true-holds (not-false (some 16 (D y) (λ v. compatible x a y v)) e)) in
           subst (λ (v : ℕ). T (compatible x a y v)) (only (r .0) (r .2)) (r .3)
 
       lived : (j : Bool) → cond (j && ltb x y) (clashes P D x a y) (alone P D x a y) ≡ false → T (compatible x a y b)

@@ -46,8 +46,9 @@ same-length c = search needs
 
 returns-2 : tie.Need-returns-2
 returns-2 c =
+    let set = c .before .before .before .before .before .before .before .before .before .before .before .before .before .before .args .set .bits in
     let r = c .before .before .before .before .before .run .ensures in
-    places-ran _ _ _ _ _ _ _ _ _ (tested (c .before .before .before .before .before .before .before .before .before)) _ _ _ (c .before .before .before .before .before .before .before .enum-told .given .1) (r .0) (r .1) (c .before .before .verdict-of .ensures) refl refl refl refl
+    places-ran _ _ _ _ _ _ set _ _ (tested (c .before .before .before .before .before .before .before .before .before)) _ _ _ (c .before .before .before .before .before .before .before .enum-told .given .1) (r .0) (r .1) (c .before .before .verdict-of .ensures) refl refl refl refl
 
 pub search-with-spec : {M : Type 1} → statement M
 search-with-spec =

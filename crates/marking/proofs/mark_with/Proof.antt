@@ -43,7 +43,10 @@ same-length : tie.Need-same-length
 same-length c = search needs
 
 returns-2 : tie.Need-returns-2
-returns-2 c = let r = c .before .before .winning-values .ensures in marks-told _ _ _ _ _ _ _ _ _ (tested (c .before .before .before .before .before .before)) _ _ _ (c .before .before .before .before .enum-told .given .1) (r .0) (r .1)
+returns-2 c =
+    let set = c .before .before .before .before .before .before .before .before .before .before .before .args .set .bits in
+    let r = c .before .before .winning-values .ensures in
+    marks-told _ _ _ _ _ _ set _ _ (tested (c .before .before .before .before .before .before)) _ _ _ (c .before .before .before .before .enum-told .given .1) (r .0) (r .1)
 
 pub mark-with-spec : {M : Type 1} → statement M
 mark-with-spec =

@@ -9,7 +9,7 @@ use Rattle.marking.proofs.values.winning_values.Statement.{statement}
 use Rattle.marking.proofs.values.winning_values.Tie as tie
 
 abbrev Inv-loop : tie.InvT-loop
-Inv-loop near index rows s room₀ m won₀ left₀ room won left = Marking s near index rows (roomWords (s .variables .n)) room₀ m room won left
+Inv-loop near index rows s room₀ m won₀ left₀ room won left = Marking (s .variables) near index rows (s .set .bits) (s .position) (roomWords (s .variables .n)) room₀ m room won left
 
 abbrev μ-loop : tie.MeasureT-loop
 μ-loop near index rows s room₀ m won₀ left₀ room won left = left
@@ -22,7 +22,7 @@ next-domain-requires : tie.Need-next-domain-requires Inv-loop μ-loop
 next-domain-requires c κs = let p = c .before .before .before .pre in omega (arith, p .next, p .start .most)
 
 loop-holds : tie.Need-loop-holds Inv-loop μ-loop
-loop-holds c = marking-start _ _ _ _ _ _ _ (search needs)
+loop-holds c = marking-start _ _ _ _ _ _ _ _ _ (search needs)
 
 lowest-requires : tie.Need-lowest-requires Inv-loop μ-loop
 lowest-requires c κs = search needs
@@ -34,11 +34,11 @@ wins-with-requires : tie.Need-wins-with-requires Inv-loop μ-loop
 wins-with-requires c κs =
     let p = c .before .before .before .before .before .before .before .before .pre in
     let l = c .before .before .before .loop .inv in
-    let a = marking-at _ _ _ _ _ _ _ l (c .before .before .loop-test .taken) _ (c .before .lowest .ensures) in
+    let a = marking-at _ _ _ _ _ _ _ _ _ l (c .before .before .loop-test .taken) _ (c .before .lowest .ensures) in
     (record { start = p .start; next = p .next; room = omega (arith, l .size, p .room) }, a .0, rw (sym (c .before .before .before .before .next-domain .ensures)) (a .1))
 
 with-value-requires : tie.Need-with-value-requires Inv-loop μ-loop
-with-value-requires c κs = marking-at _ _ _ _ _ _ _ (c .before .before .before .before .before .before .loop .inv) (c .before .before .before .before .before .loop-test .taken) _ (c .before .before .before .before .lowest .ensures) .0
+with-value-requires c κs = marking-at _ _ _ _ _ _ _ _ _ (c .before .before .before .before .before .before .loop .inv) (c .before .before .before .before .before .loop-test .taken) _ (c .before .before .before .before .lowest .ensures) .0
 
 rest-of-requires : tie.Need-rest-of-requires Inv-loop μ-loop
 rest-of-requires c κs = search needs
@@ -50,7 +50,7 @@ loop-again : tie.Need-loop-again Inv-loop μ-loop
 loop-again c =
     let w = c .before .before .before .before .wins-with .ensures in
     let l = c .before .before .before .before .before .before .before .before in
-    marking-next _ _ _ _ _ _ _ (l .loop .inv) (c .before .before .before .before .before .before .before .loop-test .taken) _ (c .before .before .before .before .before .before .lowest .ensures) _ (w .0) _ (w .1) (l .before .before .before .before .before .pre .room) _ _ (c .before .with-value .ensures) (c .rest-of .ensures)
+    marking-next _ _ _ _ _ _ _ _ _ (l .loop .inv) (c .before .before .before .before .before .before .before .loop-test .taken) _ (c .before .before .before .before .before .before .lowest .ensures) _ (w .0) _ (w .1) (l .before .before .before .before .before .pre .room) _ _ (c .before .with-value .ensures) (c .rest-of .ensures)
 
 same-length : tie.Need-same-length Inv-loop μ-loop
 same-length c = search needs
@@ -61,8 +61,8 @@ returns c =
     let p = s .pre in
     let e = c .before .before .next-domain .ensures in
     let l = c .before .loop .inv in (
-      marking-end _ _ _ _ _ _ _ l (c .loop-test .left) e (p .start .most) (p .start .fits) (long s) (p .next),
-      marking-room _ _ _ _ _ _ _ l (c .loop-test .left) e (p .start .posed) (p .next),
+      marking-end _ _ _ _ _ _ _ _ _ l (c .loop-test .left) e (p .start .most) (p .start .fits) (long s) (p .next),
+      marking-room _ _ _ _ _ _ _ _ _ l (c .loop-test .left) e (p .start .posed) (p .next),
     )
 
 pub winning-values-spec : {M : Type 1} → statement M
