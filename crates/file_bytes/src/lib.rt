@@ -14,5 +14,5 @@ pub struct Numbers {
     pub n: usize,
     pub m: usize,
     pub rules: Rules,
-    pub universal: u32,
+    pub universal: u64,
 }

@@ -12,7 +12,7 @@ use crate::head::start_of;
 use crate::put::put_mark;
 use crate::put::put_pair;
 use crate::put::put_word;
-use mask::contains_32;
+use mask::contains_64;
 
 fn variable_mark(universal: bool) -> [u8; 2]
     ensures { λ r. ⌜ r ≡ variableMark universal ⌝ }
@@ -29,13 +29,13 @@ fn put_variable(buf: &mut [u8], at: usize, universal: bool, domain: u16)
     put_word(buf, at + 2, domain);
 }
 
-fn put_variables(buf: &mut [u8], at: usize, n: usize, universal: u32, domains: &[u16])
+fn put_variables(buf: &mut [u8], at: usize, n: usize, universal: u64, domains: &[u16])
     requires { ⌜ (at + 4 * n ≤ length (now buf)) × (n ≤ length (now domains)) × (n ≤ 32) × (at ≤ 8) ⌝ }
     ensures { λ _. ⌜ now (buf .exit) ≡ stored (now (buf .entry)) at (variablesBytes (bit universal) (domainIn (now (domains .entry))) n) ⌝ }
 {
     let mut k = 0;
     while k < n {
-        put_variable(buf, at + 4 * k, contains_32(universal, k), domains[k]);
+        put_variable(buf, at + 4 * k, contains_64(universal, k), domains[k]);
         k += 1;
     }
 }

@@ -26,7 +26,7 @@ pub fn write(
     n: usize,
     m: usize,
     rules: Rules,
-    universal: u32,
+    universal: u64,
     domains: &[u16],
     constraints: &[u16],
 ) -> Written

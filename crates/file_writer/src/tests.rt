@@ -36,11 +36,11 @@ fn rules_fit(rules: Rules) -> bool
 }
 
 // No universal bit at n or above.
-fn universal_fits(universal: u32, n: usize) -> bool
+fn universal_fits(universal: u64, n: usize) -> bool
     requires { ⌜ n ≤ 32 ⌝ }
     ensures { λ r. ⌜ r ≡ ltb universal (2 ^ n) ⌝ }
 {
-    (universal as u64) < 1u64 << n
+    universal < 1 << n
 }
 
 fn domains_test(domains: &[u16], n: usize) -> Verdict

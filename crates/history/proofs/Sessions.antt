@@ -6,7 +6,7 @@ use Rattle.refusal.specs.declared.Verdict.the-variants.{Fine}
 use Rattle.file_records.specs.Records.{verdictOf}
 use Rattle.game.specs.Calls.{Call, play, takeBack}
 use Rattle.position.specs.declared.Position.{Position}
-use Rattle.session.specs.Told.{playLeft, takeBackLeft, openTold}
+use Rattle.session.specs.Told.{openTold}
 use Rattle.session.specs.History.{step, reachedFrom, reachedBy}
 use Rattle.marking.specs.Marking.{markTold}
 use Rattle.history.specs.Replay.{Demand3}
@@ -16,7 +16,7 @@ use Rattle.history.proofs.Histories.{demand-3}
 module _ (f : List ℕ) where
   -- What a call leaves in the session is the history's step.
   pub session-step : (s : Position) (c : Call) → sessionStep f s c ≡ step f s c
-  unfolding sessionStep step playLeft takeBackLeft
+  unfolding sessionStep step
   session-step s (play a) = refl
   session-step s takeBack = refl
 

@@ -32,10 +32,9 @@ use Rattle.judging.specs.Tests.{positionTest, judgeTest}
 use Rattle.judging.proofs.TestLaws.{room-held}
 use Rattle.judging.specs.Judging.{judgeReply, judgeTold}
 use Rattle.marking.specs.Marking.{markTest, markReply, markTold}
-use Rattle.host.specs.declared.replies.Judgement.{Judgement}
-use Rattle.host.specs.declared.replies.Marks.{Marks}
-use Rattle.host.specs.Unpack.{unpack}
-use Rattle.host.specs.Replies.{kindOf, numberOf, placeOf, valueOf, judgementOf, marksOf}
+use Rattle.host_replies.specs.declared.games.Judgement.{Judgement}
+use Rattle.host_replies.specs.declared.games.Marks.{Marks}
+use Rattle.host_replies.specs.Replies.{kindOf, numberOf, placeOf, valueOf, judgementOf, marksOf}
 
 -- The tests on a position and a rule set.
 module _ (n : ℕ) (masks : List ℕ) (p : Position) (set : ℕ) where
@@ -51,12 +50,9 @@ module _ (n : ℕ) (masks : List ℕ) (p : Position) (set : ℕ) where
   unfolding positionTest isRuleSet
   position-taken h t = then-ok _ _ (need-ok _ _ _ (le-leb set greatestSet h)) (need-ok _ _ _ (holds t))
 
-module _ (f : List ℕ) (fine : verdictOf f ≡ Fine) (plays a b c d set : ℕ) where
+module _ (f : List ℕ) (fine : verdictOf f ≡ Fine) (p : Position) (set : ℕ) where
   abbrev pub P : Problem
   P = problemOf f fine
-
-  abbrev pub p : Position
-  p = unpack plays a b c d
 
   -- The replies of the entries.
   abbrev pub judgeReplied : Judgement
@@ -84,8 +80,8 @@ module _ (f : List ℕ) (fine : verdictOf f ≡ Fine) (plays a b c d set : ℕ) 
       (ap judgementOf (judge-by (Not 8 0) (stop _ _ 8 0 r)), ap marksOf (mark-by (Not 8 0) (stop _ _ 8 0 r)))
 
   -- More plays than variables.
-  pub many-plays : set ≤ greatestSet → nOf f < plays → (judgeReplied ≡ record { kind = 1; number = 23; place = 0; won = 0 }) × (markReplied ≡ record { kind = 1; number = 23; place = 0; winning = 0; domain = 0 })
-  unfolding judgeTest markTest unpack repliedFor judgementOf marksOf kindOf numberOf placeOf valueOf
+  pub many-plays : set ≤ greatestSet → nOf f < p .plays → (judgeReplied ≡ record { kind = 1; number = 23; place = 0; won = 0 }) × (markReplied ≡ record { kind = 1; number = 23; place = 0; winning = 0; domain = 0 })
+  unfolding judgeTest markTest repliedFor judgementOf marksOf kindOf numberOf placeOf valueOf
   many-plays h k =
       let r = plays-refused (P .n) (P .domain) p set h (omega (arith, problem-size f fine)) in
       (ap judgementOf (judge-by (Not 23 0) (stop _ _ 23 0 r)), ap marksOf (mark-by (Not 23 0) (stop _ _ 23 0 r)))
@@ -96,9 +92,9 @@ module _ (f : List ℕ) (fine : verdictOf f ≡ Fine) (plays a b c d set : ℕ) 
   judges h t = ap judgementOf (judge-by Fine (then-ok _ _ (position-taken (P .n) (P .domain) p set h t) (room-held P size)))
 
   -- And it is markReplied, where a variable is left to play.
-  pub marks : set ≤ greatestSet → T (fitsIn p (P .n) (P .domain)) → plays < nOf f
-      → markReplied ≡ record { kind = 0; number = 0; place = 0; winning = winningValues P (playsOf p); domain = getD (P .domain) plays 0 }
-  unfolding markTest unpack repliedFor marksOf kindOf numberOf placeOf valueOf
+  pub marks : set ≤ greatestSet → T (fitsIn p (P .n) (P .domain)) → p .plays < nOf f
+      → markReplied ≡ record { kind = 0; number = 0; place = 0; winning = winningValues P (playsOf p); domain = getD (P .domain) (p .plays) 0 }
+  unfolding markTest repliedFor marksOf kindOf numberOf placeOf valueOf
   marks h t k =
       ap marksOf
-      (mark-by Fine (then-ok _ _ (position-taken (P .n) (P .domain) p set h t) (then-ok _ _ (need-ok _ _ _ (lt-ltb plays (P .n) (omega (arith, problem-size f fine)))) (room-held P size))))
+      (mark-by Fine (then-ok _ _ (position-taken (P .n) (P .domain) p set h t) (then-ok _ _ (need-ok _ _ _ (lt-ltb (p .plays) (P .n) (omega (arith, problem-size f fine)))) (room-held P size))))

@@ -23,6 +23,14 @@ pub fn contains_32(m: u32, k: usize) -> bool
     (m >> k) % 2 == 1
 }
 
+// The same for a mask of 64 bits.
+pub fn contains_64(m: u64, k: usize) -> bool
+    requires { ⌜ k < 64 ⌝ }
+    ensures { λ r. ⌜ r ≡ bit m k ⌝ }
+{
+    (m >> k) % 2 == 1
+}
+
 // The mask of value k alone.
 pub fn single(k: usize) -> u16
     requires { ⌜ k < 16 ⌝ }

@@ -11,7 +11,8 @@ use mask::contains;
 use mask::single;
 use refusal::both;
 
-// The options played, in order of play, and zero elsewhere.
+// The options played, in order of play, and zero elsewhere. C hosts hand it in and get it back.
+#[repr(C)]
 pub struct Position {
     pub plays: usize,
     pub values: [u8; 32],

@@ -1,6 +1,6 @@
 // The session's core by value: a play, a take-back and the open values of a position. Each call reads the file first, then tests the
 // position, then its argument. It rests on `file_reader`, `file_decoder` and `position`. `play`, `take_back` and `open_values` are open
-// to callers; `play_file` and `take_back_file` are for `panel`.
+// to callers.
 ghost use mathlib.Core.Path.{_≡_};
 ghost use Rattle.session.specs.Told.{told, playTold, playLeft, takeBackTold, takeBackLeft};
 ghost use Rattle.session.specs.Told.{toldOpened, openTold, masksShown, countsShown};
@@ -10,8 +10,8 @@ mod open;
 mod plays;
 
 use file_decoder::decode;
-pub use files::play_file;
-pub use files::take_back_file;
+use files::play_file;
+use files::take_back_file;
 use open::open_in;
 use position::Position;
 use solver_arrays::ROWS;

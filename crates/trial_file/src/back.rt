@@ -82,7 +82,8 @@ fn written_back(f: &[u8], head: Head, domains: &[u16; 32], numbers: &[u16; 8928]
     let rules = head.rules;
     let d = front(domains, n);
     let c = front(numbers, 18 * m);
-    let w = write(&mut buf, n, m, rules, head.universal, d, c);
+    let universal = head.universal as u64;
+    let w = write(&mut buf, n, m, rules, universal, d, c);
     match w {
         Written::Length(k) => begins(&buf, k, f),
         Written::Refused(_) => false,

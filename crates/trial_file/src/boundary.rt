@@ -1,5 +1,5 @@
 // The boundary rows of document 01 ("By program only"): small files made here, and what reading tells of each.
-ghost use Prim.Native.Nat.{_≤_, _<_};
+ghost use Prim.Native.Nat.{_≤_};
 use crate::reading::agrees;
 use trial_vectors::Tally;
 use trial_vectors::counted;

@@ -1,14 +1,15 @@
-// Runs reader, look-up and writer over shared files (stdin: the number of cases, then for each a file, the number of its
-// refusal, 0 for an accepted file, and the place), and the reader over document 01's boundary rows.
+// Runs reader, look-up and writer over stored files, and the reader over document 01's boundary rows. stdin is the first quarter of
+// cases/reading.bin: the number of cases, then for each a file, the number of its refusal, 0 for an accepted file, and the place. It rests
+// on `file_reader`, `file_lookup`, `file_writer` and `trial_vectors`.
 mod back;
 mod boundary;
 mod pairs;
 mod reading;
 
 use trial_vectors::Tally;
+use trial_vectors::before_cases;
 use trial_vectors::byte;
-use trial_vectors::cases_at;
-use trial_vectors::count_at;
+use trial_vectors::case_count;
 use trial_vectors::counted;
 use trial_vectors::input;
 use trial_vectors::moved;
@@ -46,8 +47,8 @@ fn one_case(s: &[u8], trial: usize, t: Tally) -> Tally {
 }
 
 fn all_cases(s: &[u8], trial: usize) -> Tally {
-    let mut t = cases_at(0);
-    for _ in 0..count_at(s, 0) {
+    let mut t = before_cases();
+    for _ in 0..case_count(s) {
         t = one_case(s, trial, t);
     }
     t

@@ -9,20 +9,10 @@ use refusal::both;
 use trial_vectors::Tally;
 use trial_vectors::byte;
 use trial_vectors::counted;
+use trial_vectors::first_variable;
 use trial_vectors::moved;
 use trial_vectors::part;
 use trial_vectors::place;
-
-// Where the variables begin: behind QP, and RS if there is one.
-fn first_variable(f: &[u8]) -> usize
-    ensures { λ r. ⌜ r ≤ 8 ⌝ }
-{
-    if both(byte(f, 5) == 82, byte(f, 6) == 83) {
-        8
-    } else {
-        5
-    }
-}
 
 // Whether a record CT of the pair (i, j) stands at p.
 fn stands(f: &[u8], p: usize, i: usize, j: usize) -> bool

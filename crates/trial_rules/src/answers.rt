@@ -1,59 +1,24 @@
-// What the five calls answer, as numbers: kind 0 is a reply, 1 a refusal by number, 2 a file's refusal with its place.
-use refusal::both;
+// What the five calls answer, as numbers: a loss or none, or a mask.
 use rule_entries::Ruled;
 use rule_entries::Values;
-
-pub struct Answer {
-    pub kind: usize,
-    pub number: usize,
-    pub place: usize,
-}
+use trial_vectors::Answer;
+use trial_vectors::refused;
+use trial_vectors::refused_at;
+use trial_vectors::replied;
 
 pub fn ruled(r: Ruled) -> Answer {
     match r {
-        Ruled::Stands => Answer {
-            kind: 0,
-            number: 0,
-            place: 0,
-        },
-        Ruled::Lost => Answer {
-            kind: 0,
-            number: 1,
-            place: 0,
-        },
-        Ruled::Refused(e) => Answer {
-            kind: 1,
-            number: e as usize,
-            place: 0,
-        },
-        Ruled::RefusedAt(e, p) => Answer {
-            kind: 2,
-            number: e as usize,
-            place: p,
-        },
+        Ruled::Stands => replied(0, 0),
+        Ruled::Lost => replied(1, 0),
+        Ruled::Refused(e) => refused(e as usize),
+        Ruled::RefusedAt(e, p) => refused_at(e as usize, p),
     }
 }
 
 pub fn values(r: Values) -> Answer {
     match r {
-        Values::Mask(m) => Answer {
-            kind: 0,
-            number: m as usize,
-            place: 0,
-        },
-        Values::Refused(e) => Answer {
-            kind: 1,
-            number: e as usize,
-            place: 0,
-        },
-        Values::RefusedAt(e, p) => Answer {
-            kind: 2,
-            number: e as usize,
-            place: p,
-        },
+        Values::Mask(m) => replied(m as usize, 0),
+        Values::Refused(e) => refused(e as usize),
+        Values::RefusedAt(e, p) => refused_at(e as usize, p),
     }
-}
-
-pub fn is(a: Answer, kind: usize, number: usize, place: usize) -> bool {
-    both(a.kind == kind, both(a.number == number, a.place == place))
 }

@@ -1,7 +1,6 @@
 // One of the five calls on the first n masks of a list, by the number of its rule.
 ghost use Prim.Native.Nat.{_≤_};
 ghost use lib.ListN.{length};
-use crate::answers::Answer;
 use crate::answers::ruled;
 use crate::answers::values;
 use rule_entries::arc;
@@ -9,6 +8,7 @@ use rule_entries::forward_check;
 use rule_entries::interchangeable;
 use rule_entries::look_ahead;
 use rule_entries::pure;
+use trial_vectors::Answer;
 
 // The rules that rewrite the list.
 fn rewritten(rule: usize, f: &[u8], list: &mut [u16], x: usize, a: usize) -> Answer {

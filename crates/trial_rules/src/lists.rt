@@ -1,5 +1,5 @@
 // Lists of at most 32 masks.
-ghost use Prim.Native.Nat.{_≤_, _<_};
+ghost use Prim.Native.Nat.{_≤_};
 use refusal::both;
 use trial_vectors::word;
 

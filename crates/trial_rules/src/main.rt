@@ -1,6 +1,6 @@
-// Runs the five rules alone over shared cases (stdin: the number of cases, then for each a file, a list of n masks, what
-// arc tells and leaves, a variable and a value, what the forward check tells and leaves, and what look ahead, pure and
-// interchangeable tell), and drives every refusal of the five calls.
+// Runs the five rules alone over stored cases, and drives every refusal of the five calls. stdin is the first quarter of cases/rules.bin:
+// the number of cases, then for each a file, a list of n masks, what arc tells and leaves, a variable and a value, what the forward check
+// tells and leaves, and what look ahead, pure and interchangeable tell. It rests on `rule_entries` and `trial_vectors`.
 ghost use Prim.Native.Nat.{_≤_};
 
 mod answers;
@@ -8,21 +8,22 @@ mod calls;
 mod lists;
 mod refusals;
 
-use answers::is;
 use calls::called;
 use lists::masks;
 use lists::same_masks;
 use refusal::both;
 use trial_vectors::Tally;
+use trial_vectors::before_cases;
 use trial_vectors::byte;
-use trial_vectors::cases_at;
-use trial_vectors::count_at;
+use trial_vectors::case_count;
 use trial_vectors::counted;
 use trial_vectors::input;
 use trial_vectors::moved;
 use trial_vectors::part;
 use trial_vectors::place;
+use trial_vectors::replied;
 use trial_vectors::report;
+use trial_vectors::same_answer;
 use trial_vectors::word;
 
 fn at_most_32(n: usize) -> usize
@@ -48,7 +49,7 @@ fn agrees(
     let mut l = masks(s, p, n);
     let left = masks(s, q, n);
     let r = called(rule, f, &mut l, n, x, a);
-    both(is(r, 0, number, 0), same_masks(&l, &left))
+    both(same_answer(r, replied(number, 0)), same_masks(&l, &left))
 }
 
 // The case whose list stands at p, of a file with n variables, in one trial.
@@ -86,8 +87,8 @@ fn one_case(rule: usize, s: &[u8], t: Tally) -> Tally {
 }
 
 fn all_cases(rule: usize, s: &[u8]) -> Tally {
-    let mut t = cases_at(0);
-    for _ in 0..count_at(s, 0) {
+    let mut t = before_cases();
+    for _ in 0..case_count(s) {
         t = one_case(rule, s, t);
     }
     t

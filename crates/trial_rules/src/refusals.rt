@@ -1,6 +1,5 @@
 // Every refusal of the five calls on one small file (G1 of document 01), the first where two apply, and the list kept.
 ghost use Prim.Native.Nat.{_≤_};
-use crate::answers::is;
 use crate::calls::called;
 use crate::lists::same_masks;
 use refusal::both;
@@ -8,6 +7,9 @@ use trial_vectors::Tally;
 use trial_vectors::counted;
 use trial_vectors::none_yet;
 use trial_vectors::part;
+use trial_vectors::refused;
+use trial_vectors::refused_at;
+use trial_vectors::same_answer;
 
 fn sample() -> [u8; 51] {
     let mut g = [0u8; 51];
@@ -48,7 +50,7 @@ fn refuses(rule: usize, u: u16, v: u16, n: usize, x: usize, a: usize, number: us
     let before = lent(u, v);
     let mut l = lent(u, v);
     let r = called(rule, part(&g, 0, 51), &mut l, n, x, a);
-    both(is(r, 1, number, 0), same_masks(&l, &before))
+    both(same_answer(r, refused(number)), same_masks(&l, &before))
 }
 
 // On the first k bytes of the file, with a list, a variable and a value that would be refused too, it refuses by this number and place.
@@ -57,7 +59,10 @@ fn refuses_at(rule: usize, k: usize, number: usize, place: usize) -> bool {
     let before = lent(0, 4);
     let mut l = lent(0, 4);
     let r = called(rule, part(&g, 0, k), &mut l, 3, 9, 9);
-    both(is(r, 2, number, place), same_masks(&l, &before))
+    both(
+        same_answer(r, refused_at(number, place)),
+        same_masks(&l, &before),
+    )
 }
 
 // The file's refusals and 13, which all five have; each with a variable and a value that would be refused too.
@@ -81,7 +86,7 @@ fn variables(rule: usize, t: Tally) -> Tally {
 }
 
 // 10, of the forward check alone: outside the file's mask, outside the lent mask alone, and no value at all.
-fn option_refusals(t: Tally) -> Tally {
+fn value_refusals(t: Tally) -> Tally {
     let a = counted(t, refuses(2, 3, 3, 2, 0, 2, 10));
     let b = counted(a, refuses(2, 1, 3, 2, 0, 1, 10));
     let c = counted(b, refuses(2, 3, 2, 2, 1, 0, 10));
@@ -99,5 +104,5 @@ pub fn all_refusals() -> Tally {
         }
         rule += 1;
     }
-    option_refusals(t)
+    value_refusals(t)
 }

@@ -1,7 +1,6 @@
 // Positions in the stored cases.
-ghost use Prim.Native.Nat.{_≤_, _<_};
+ghost use Prim.Native.Nat.{_≤_};
 use position::Position;
-use refusal::both;
 use trial_vectors::byte;
 
 // The position with these plays whose first k places stand in s from p on.
@@ -20,16 +19,4 @@ pub fn position_at(s: &[u8], p: usize, plays: usize, k: usize) -> Position
         plays: plays,
         values: values,
     }
-}
-
-pub fn same_position(a: Position, b: Position) -> bool {
-    let u = a.values;
-    let v = b.values;
-    let mut ok = a.plays == b.plays;
-    let mut i = 0;
-    while i < 32 {
-        ok = both(u[i] == v[i], ok);
-        i += 1;
-    }
-    ok
 }

@@ -1,8 +1,18 @@
-// What the trial programs share: standard input, numbers and parts of a file of vectors, a tally of cases, and the lines of a report.
-// Every read is total: a byte past the end is 0, a part that is not there is empty. For the trial programs alone.
+// What the trial programs share: standard input, numbers and parts of stored cases, answers as numbers, a tally of cases, and the lines
+// of a report. Every read is total: a byte past the end is 0, a part that is not there is empty. It rests on `refusal` and on the kit's
+// `io`. For the trial programs alone.
 ghost use mathlib.Core.Path.{_≡_};
 ghost use Prim.Native.Nat.{_≤_, _<_};
 ghost use lib.ListN.{length};
+
+mod answers;
+
+pub use answers::Answer;
+pub use answers::refused;
+pub use answers::refused_at;
+pub use answers::replied;
+pub use answers::same_answer;
+use refusal::both;
 
 // How far a trial has come: where the next case begins, and how many cases were compared and differed.
 pub struct Tally {
@@ -64,23 +74,34 @@ pub fn place(p: usize) -> usize
     if p < 1000000 { p } else { 1000000 }
 }
 
-// How many cases are stored behind the number at `start`.
-pub fn count_at(s: &[u8], start: usize) -> usize
+// Where the variables of an accepted file begin: behind QP, and RS if there is one.
+pub fn first_variable(f: &[u8]) -> usize
+    ensures { λ r. ⌜ r ≤ 8 ⌝ }
+{
+    if both(byte(f, 5) == 82, byte(f, 6) == 83) {
+        8
+    } else {
+        5
+    }
+}
+
+// How many cases are stored: the number at the front.
+pub fn case_count(s: &[u8]) -> usize
     ensures { λ r. ⌜ r < 65536 ⌝ }
 {
-    word(s, place(start))
+    word(s, 0)
 }
 
 // The tally before the first of them.
-pub fn cases_at(start: usize) -> Tally {
-    moved(none_yet(), place(start) + 2)
+pub fn before_cases() -> Tally {
+    moved(none_yet(), 2)
 }
 
-pub fn one_more(x: usize) -> usize {
+fn one_more(x: usize) -> usize {
     if x < 1000000 { x + 1 } else { x }
 }
 
-pub fn one_if(x: usize, b: bool) -> usize {
+fn one_if(x: usize, b: bool) -> usize {
     if b { one_more(x) } else { x }
 }
 
@@ -102,7 +123,7 @@ pub fn moved(t: Tally, p: usize) -> Tally {
     }
 }
 
-pub fn line(label: &[u8], number: usize) {
+fn line(label: &[u8], number: usize) {
     io::write_all(1, label);
     io::print_decimal(1, number as u64);
     io::write_all(1, b"\n");

@@ -1,5 +1,5 @@
 use mathlib.Core.Path.{refl, ap, _∙_}
-use Rattle.host.specs.Replies.{judgementOf}
+use Rattle.host_replies.specs.Replies.{judgementOf}
 use borrow.Author.Needs.{needs}
 use Rattle.host.proofs.kb_judge.Statement.{statement}
 use Rattle.host.proofs.kb_judge.Tie as tie

@@ -1,5 +1,5 @@
 use mathlib.Core.Path.{refl, ap, _∙_}
-use Rattle.host.specs.Replies.{marksOf}
+use Rattle.host_replies.specs.Replies.{marksOf}
 use borrow.Author.Needs.{needs}
 use Rattle.host.proofs.kb_mark.Statement.{statement}
 use Rattle.host.proofs.kb_mark.Tie as tie

@@ -9,11 +9,11 @@ Inv-loop rule s t₀ counter₀ end t counter = counter ≤ end
 abbrev μ-loop : tie.MeasureT-loop
 μ-loop rule s t₀ counter₀ end t counter = end - counter
 
-cases-at-requires : tie.Need-cases-at-requires Inv-loop μ-loop
-cases-at-requires c κs = search needs
+before-cases-requires : tie.Need-before-cases-requires Inv-loop μ-loop
+before-cases-requires c κs = search needs
 
-count-at-requires : tie.Need-count-at-requires Inv-loop μ-loop
-count-at-requires c κs = search needs
+case-count-requires : tie.Need-case-count-requires Inv-loop μ-loop
+case-count-requires c κs = search needs
 
 loop-holds : tie.Need-loop-holds Inv-loop μ-loop
 loop-holds c = search needs
@@ -39,8 +39,8 @@ all-cases-spec =
     (tie.spec
     Inv-loop
     μ-loop
-    cases-at-requires
-    count-at-requires
+    before-cases-requires
+    case-count-requires
     loop-holds
     one-case-requires
     add-counter

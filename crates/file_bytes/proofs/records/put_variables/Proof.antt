@@ -28,8 +28,8 @@ mul-put-variable c = search needs
 add-put-variable : tie.Need-add-put-variable Inv-loop μ-loop
 add-put-variable c = search needs
 
-contains-32-requires : tie.Need-contains-32-requires Inv-loop μ-loop
-contains-32-requires c κs = search needs
+contains-64-requires : tie.Need-contains-64-requires Inv-loop μ-loop
+contains-64-requires c κs = search needs
 
 mul-put-variable-2 : tie.Need-mul-put-variable-2 Inv-loop μ-loop
 mul-put-variable-2 c = search needs
@@ -64,7 +64,7 @@ put-variables-spec =
     loop-holds
     mul-put-variable
     add-put-variable
-    contains-32-requires
+    contains-64-requires
     mul-put-variable-2
     shared-slice-read-put-variable
     put-variable-requires

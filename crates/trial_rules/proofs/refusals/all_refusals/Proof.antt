@@ -30,8 +30,8 @@ loop-less c = search needs
 loop-again : tie.Need-loop-again Inv-loop μ-loop
 loop-again c = search needs
 
-option-refusals-requires : tie.Need-option-refusals-requires Inv-loop μ-loop
-option-refusals-requires c κs = search needs
+value-refusals-requires : tie.Need-value-refusals-requires Inv-loop μ-loop
+value-refusals-requires c κs = search needs
 
 returns : tie.Need-returns Inv-loop μ-loop
 returns c = search needs
@@ -49,5 +49,5 @@ all-refusals-spec =
     add-rule
     loop-less
     loop-again
-    option-refusals-requires
+    value-refusals-requires
     returns)

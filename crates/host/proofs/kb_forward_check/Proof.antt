@@ -1,0 +1,21 @@
+use mathlib.Core.Path.{ap, _∙_}
+use Rattle.host_replies.specs.Replies.{ruledOf}
+use borrow.Author.Needs.{needs}
+use Rattle.host.proofs.kb_forward_check.Statement.{statement}
+use Rattle.host.proofs.kb_forward_check.Tie as tie
+
+forward-check-requires : tie.Need-forward-check-requires
+forward-check-requires c κs = search needs
+
+ruled-shown-requires : tie.Need-ruled-shown-requires
+ruled-shown-requires c κs = search needs
+
+same-length : tie.Need-same-length
+same-length c = search needs
+
+returns : tie.Need-returns
+returns c = (c .ruled-shown .ensures ∙ ap ruledOf (c .before .before .before .forward-check .ensures .0), c .before .before .before .forward-check .ensures .1)
+
+pub kb-forward-check-spec : {M : Type 1} → statement M
+kb-forward-check-spec =
+    tie.close (tie.spec forward-check-requires ruled-shown-requires same-length returns)

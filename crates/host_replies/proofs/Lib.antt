@@ -1,0 +1,4 @@
+-- Laws of the replies.
+
+-- Replies put together from the fields of another.
+pub mod ReplyLaws

@@ -1,0 +1,154 @@
+/* The game and the first five rules on the numbers of a job, each as document 01 words it, for small jobs: a plain model beside which
+   the entries are tried. It shares nothing with the library. */
+#ifndef MODEL_H
+#define MODEL_H
+
+#include "jobs.h"
+
+static int has(uint64_t mask, uint64_t option) { return option < 16 && (mask >> option & 1); }
+static int universal(const job *j, uint64_t k) { return j->universal >> k & 1; }
+
+/* The table of i < k, or NULL. */
+static const uint16_t *table(const job *j, uint64_t i, uint64_t k) {
+    for (const uint16_t *t = j->tables; t < j->tables + TABLE * j->m; t += TABLE)
+        if (t[0] == i && t[1] == k) return t;
+    return NULL;
+}
+
+static int tied(const job *j, uint64_t i, uint64_t k) { return table(j, i < k ? i : k, i < k ? k : i) != NULL; }
+
+static int goes(const job *j, uint64_t i, unsigned a, uint64_t k, unsigned b) {
+    const uint16_t *t = table(j, i < k ? i : k, i < k ? k : i);
+    return t == NULL || (i < k ? t[2 + a] >> b : t[2 + b] >> a) & 1;
+}
+
+/* The options of `mask` of choice k that option a of choice i goes with. */
+static uint16_t going(const job *j, uint64_t i, unsigned a, uint64_t k, uint16_t mask) {
+    uint16_t left = 0;
+    for (unsigned b = 0; b < 16; b++)
+        if (has(mask, b) && goes(j, i, a, k, b)) left |= (uint16_t)(1u << b);
+    return left;
+}
+
+static int fits(const job *j, const kb_position *p) {
+    if (p->plays > j->n) return 0;
+    for (uint64_t k = 0; k < 32; k++)
+        if (k < p->plays ? !has(j->domains[k], p->values[k]) : p->values[k] != 0) return 0;
+    return 1;
+}
+
+/* Whether the game is won: every play by itself, to the last. */
+static int won(const job *j, kb_position p) {
+    uint64_t k = p.plays;
+    for (uint64_t i = 0; k > 0 && i < k - 1; i++)
+        if (!goes(j, i, p.values[i], k - 1, p.values[k - 1])) return 0;
+    if (k == j->n) return 1;
+    p.plays++;
+    for (unsigned a = 0; a < 16; a++) {
+        if (!has(j->domains[k], a)) continue;
+        p.values[k] = (uint8_t)a;
+        if (won(j, p) != universal(j, k)) return !universal(j, k);
+    }
+    return universal(j, k);
+}
+
+/* A position's verdict; `won` itself looks at the last play alone. */
+static int verdict(const job *j, kb_position p) {
+    for (uint64_t k = 0; k + 1 < p.plays; k++)
+        for (uint64_t i = 0; i < k; i++)
+            if (!goes(j, i, p.values[i], k, p.values[k])) return 0;
+    return won(j, p);
+}
+
+static uint64_t winning(const job *j, kb_position p) {
+    uint64_t mask = 0, k = p.plays++;
+    for (unsigned a = 0; a < 16; a++) {
+        p.values[k] = (uint8_t)a;
+        if (has(j->domains[k], a) && verdict(j, p)) mask |= 1u << a;
+    }
+    return mask;
+}
+
+static void open_options(const job *j, const kb_position *p, kb_opened *o) {
+    for (uint64_t k = 0; k < j->n; k++) {
+        uint16_t mask = k < p->plays ? (uint16_t)(1u << p->values[k]) : j->domains[k];
+        for (uint64_t i = 0; k >= p->plays && !universal(j, k) && i < p->plays; i++) mask = going(j, i, p->values[i], k, mask);
+        o->masks[k] = mask;
+        for (unsigned a = 0; a < 16; a++) o->counts[k] += has(mask, a);
+    }
+}
+
+/* Rule 1. Removes dead options until none is left, and says whether that is a loss. */
+static int arc(const job *j, uint16_t *list) {
+    int lost = 0;
+    for (int more = 1; more;) {
+        more = 0;
+        for (uint64_t i = 0; i < j->n; i++)
+            for (uint64_t k = 0; !universal(j, i) && k < j->n; k++)
+                for (unsigned a = 0; k != i && tied(j, i, k) && a < 16; a++) {
+                    uint16_t left = has(list[i], a) ? going(j, i, a, k, list[k]) : 0;
+                    int dead = universal(j, k) && k > i ? left != list[k] : left == 0;
+                    if (has(list[i], a) && dead) list[i] &= (uint16_t) ~(1u << a), more = 1;
+                }
+    }
+    for (uint64_t i = 0; i < j->n; i++) {
+        lost |= list[i] == 0;
+        for (uint64_t k = 0; universal(j, i) && k < j->n; k++)
+            for (unsigned a = 0; k != i && tied(j, i, k) && a < 16; a++) {
+                uint16_t left = going(j, i, a, k, list[k]);
+                if (has(list[i], a) && (universal(j, k) ? left != list[k] : k > i && left == 0)) lost = 1;
+            }
+    }
+    return lost;
+}
+
+/* Rule 2. */
+static int forward(const job *j, uint16_t *list, uint64_t x, unsigned a) {
+    int lost = 0;
+    list[x] = (uint16_t)(1u << a);
+    for (uint64_t k = x + 1; k < j->n; k++) {
+        uint16_t left = going(j, x, a, k, list[k]);
+        if (universal(j, k)) lost |= left != list[k];
+        else lost |= (list[k] = left) == 0;
+    }
+    return lost;
+}
+
+/* Rule 3. */
+static int ahead(const job *j, const uint16_t *list, uint64_t x) {
+    uint16_t copy[32];
+    int lost = 0;
+    for (unsigned a = 0; universal(j, x) && a < 16; a++) {
+        memcpy(copy, list, 2 * j->n);
+        if (has(list[x], a)) lost |= forward(j, copy, x, a);
+    }
+    return lost;
+}
+
+/* Rules 4 and 5: the pure options of x; the options that have no smaller one alike. */
+static uint16_t kept(const job *j, const uint16_t *list, uint64_t x, int pure) {
+    uint16_t mask = 0;
+    for (unsigned a = 0; a < 16; a++) {
+        int keep = has(list[x], a);
+        for (uint64_t k = 0; pure && k < j->n; k++) keep &= k == x || going(j, x, a, k, list[k]) == list[k];
+        for (unsigned b = 0; !pure && b < a; b++) {
+            int alike = has(list[x], b);
+            for (uint64_t k = 0; k < j->n; k++) alike &= k == x || going(j, x, a, k, list[k]) == going(j, x, b, k, list[k]);
+            keep &= !alike;
+        }
+        if (keep) mask |= (uint16_t)(1u << a);
+    }
+    return mask;
+}
+
+/* The position that calls reach, by the plain list of the plays that stand. */
+static kb_position standing(const job *j, const uint8_t *calls, size_t count) {
+    kb_position p = {0, {0}};
+    for (size_t c = 0; c < count; c++)
+        if (calls[c] == 255) {
+            if (p.plays > 0) p.values[--p.plays] = 0;
+        } else if (p.plays < j->n && has(j->domains[p.plays], calls[c])) p.values[p.plays++] = calls[c];
+    return p;
+}
+
+#endif
