@@ -562,7 +562,7 @@ static void several(void) {
     }
 }
 
-/* Every byte at every place of a position. */
+/* Every byte at every place of a position; then long games, in which every number of packed places counts. */
 static void positions(void) {
     some_job(&made);
     arguments g = ordinary(&made);
@@ -574,6 +574,12 @@ static void positions(void) {
                 for (entry e = PLAY; e <= OPEN; e++) attempt_with("a byte of a position", e, g, HEAP, ordinary_size(e, &made));
                 if (value % 16 == 1 || place < made.n) attempt_with("a byte of a position", JUDGE, g, HEAP, 0);
             }
+    for (uint64_t round = 0; round < 40; round += step(4)) {
+        make_job(&made, 32, 6, 30, 5, 20);
+        g = ordinary(&made);
+        g.position = some_position(&made, 28 + round % 5);
+        for (entry e = PLAY; e <= SEARCH; e++) attempt_with("a long game", e, g, HEAP, ordinary_size(e, &made));
+    }
 }
 
 /* What the writer is handed, one number of its lists wrong, or two. */

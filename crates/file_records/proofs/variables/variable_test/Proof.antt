@@ -1,5 +1,5 @@
 use borrow.Author.Needs.{needs}
-use mathlib.Core.Path.{sym, _∙_}
+use mathlib.Core.Path.{refl, sym, _∙_}
 use native.Mathlib.Omega.{arith}
 use Rattle.refusal.proofs.Chain.{stop, go}
 use Rattle.file_layout.proofs.LayoutLaws.{opened-out}
@@ -40,7 +40,7 @@ returns c = sym (stop _ _ _ _ (cc))
 
 returns-2 : tie.Need-returns-2
 unfolding variableTest
-returns-2 c = sym (go _ _ (cc) ∙ cc)
+returns-2 c = sym (go _ _ (cc) ∙ sym (c .needed .ensures ∙ rw (c .before .word-at .ensures) refl))
 
 pub variable-test-spec : {M : Type 1} → statement M
 variable-test-spec =
