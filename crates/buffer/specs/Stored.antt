@@ -8,7 +8,7 @@ unfoldable pub stored : List ℕ → ℕ → List ℕ → List ℕ
 stored l i vs = sets l i vs
 
 -- The lists g 0, g 1 .. of the numbers below k, one behind another.
-unfoldable pub joined : (ℕ → List ℕ) → ℕ → List ℕ
+unfoldable pub joined : {A : Type 0} → (ℕ → List A) → ℕ → List A
 joined g zero = []
 joined g (suc k) = joined g k ++ g k
 

@@ -2,6 +2,8 @@
 pub mod Logic
 -- Laws of tests over a range.
 pub mod Range
+-- Laws of `count`: the places of the numbers that pass.
+pub mod Places
 -- Laws of `bit` under every operation.
 pub mod Bits
 -- Laws of masks: made of a test, empty, taken apart.
