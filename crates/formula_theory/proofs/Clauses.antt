@@ -7,16 +7,16 @@ use lib.Dec.{T}
 use Rattle.mask.proofs.Logic.{by-eq, and-in, and-out, or-left, or-right, or-out}
 use Rattle.buffer.specs.Stored.{joined}
 use Rattle.formula.specs.Formula.{Literal, Assignment, onlyIf, literalHolds, clauseHolds, allHold}
+use Rattle.formula_theory.proofs.Forms.{allHave}
 
 module _ (s : Assignment) where
-  -- All of two lists hold exactly if all of each do.
-  pub all-both : (xs ys : List (List Literal)) → T (allHold s xs) → T (allHold s ys) → T (allHold s (xs ++ ys))
-  unfolding allHold
-  all-both [] ys t u = u
-  all-both (c ∷ xs) ys t u =
-      let r = and-out (clauseHolds s c) (allHold s xs) t in
-      and-in (clauseHolds s c) (allHold s (xs ++ ys)) (r .0) (all-both xs ys (r .1) u)
+  -- All hold where each does.
+  pub have-all : (cs : List (List Literal)) → allHave (λ c. T (clauseHolds s c)) cs → T (allHold s cs)
+  unfolding allHold allHave
+  have-all [] f = tt
+  have-all (c ∷ cs) f = and-in (clauseHolds s c) (allHold s cs) (f .0) (have-all cs (f .1))
 
+  -- Where all hold, those of each part do.
   pub all-parts : (xs ys : List (List Literal)) → T (allHold s (xs ++ ys)) → T (allHold s xs) × T (allHold s ys)
   unfolding allHold
   all-parts [] ys t = (tt, t)
@@ -29,19 +29,10 @@ module _ (s : Assignment) where
   unfolding allHold
   all-one c t = and-out (clauseHolds s c) true t .0
 
-  pub one-all : (c : List Literal) → T (clauseHolds s c) → T (allHold s (c ∷ []))
-  unfolding allHold
-  one-all c t = and-in (clauseHolds s c) true t tt
-
   pub all-if : (b : Bool) (xs : List (List Literal)) → T (allHold s (onlyIf b xs)) → T b → T (allHold s xs)
   unfolding onlyIf
   all-if true xs t u = t
   all-if false xs t u = absurd u
-
-  pub if-all : (b : Bool) (xs : List (List Literal)) → (T b → T (allHold s xs)) → T (allHold s (onlyIf b xs))
-  unfolding onlyIf allHold
-  if-all true xs f = f tt
-  if-all false xs f = tt
 
   pub all-joined : (g : ℕ → List (List Literal)) (k : ℕ) → T (allHold s (joined g k)) → (i : ℕ) → i < k → T (allHold s (g i))
   unfolding joined
@@ -49,11 +40,6 @@ module _ (s : Assignment) where
   all-joined g (suc k) t i h =
       let r = all-parts (joined g k) (g k) t in
       by-eq i k (λ e. rw e (r .1)) (λ e. all-joined g k (r .0) i (omega arith))
-
-  pub joined-all : (g : ℕ → List (List Literal)) (k : ℕ) → ((i : ℕ) → i < k → T (allHold s (g i))) → T (allHold s (joined g k))
-  unfolding joined allHold
-  joined-all g zero f = tt
-  joined-all g (suc k) f = all-both (joined g k) (g k) (joined-all g k (λ i h. f i (omega arith))) (f k (omega arith))
 
   -- A clause of two parts holds exactly if one of them does.
   pub clause-left : (xs ys : List Literal) → T (clauseHolds s xs) → T (clauseHolds s (xs ++ ys))

@@ -6,10 +6,10 @@ use mathlib.Core.Bool.{Bool, true, false, not, _&&_}
 use mathlib.Core.List.{List, [], _∷_, _++_}
 use Prim.Native.Nat.{ℕ, zero, suc, _+_, _-_, _≤_, _<_}
 use native.Mathlib.Omega.{arith}
-use lib.Dec.{T, eqb, ltb, lt→ltb, ltb→lt, not-T, T-not}
+use lib.Dec.{T, eqb, ltb, lt→ltb, not-T, T-not}
 use Rattle.mask.specs.Range.{some}
 use Rattle.mask.specs.Mask.{bit, maskOf}
-use Rattle.mask.proofs.Logic.{same, holds, fails, test, by-eq, and-in, and-out, or-right}
+use Rattle.mask.proofs.Logic.{same, holds, test, by-eq, and-in, and-out, or-right}
 use Rattle.mask.proofs.Logic.{clash as contradiction}
 use Rattle.mask.proofs.Range.{some-in, some-out}
 use Rattle.game.specs.Problem.{Problem}
@@ -21,6 +21,7 @@ use Rattle.theory.proofs.Moves.{turn-out, turn-in, put-at, put-off, satisfied-o
 use Rattle.buffer.specs.Stored.{joined}
 use Rattle.formula.specs.Formula.{Literal, Assignment, assign, onlyIf, literalHolds, clauseHolds, allHold, judged, judgeFormula}
 use Rattle.formula.specs.Encoding.{run, size, place, width, base, booleanOf, ways, stands, denial, atLeastOne, optionClauses, clash, clashClauses, constraintClauses, tableClauses, closes, fresh, closingClauses, prefixFrom, formulaOf}
+use Rattle.formula_theory.proofs.Forms.{all-forms}
 use Rattle.formula_theory.proofs.Clauses
 use Rattle.formula_theory.proofs.Blocks
 use Rattle.formula_theory.proofs.Blocks.{spread}
@@ -72,26 +73,13 @@ module _ (P : Problem) where
       }
 
   say-in : (s : Assignment) → Say s → T (allHold s clauses)
-  unfolding clauses formulaOf optionClauses tableClauses constraintClauses clashClauses closingClauses
+  unfolding clauses
   say-in s y =
-      Clauses.all-both s (optionClauses P ++ tableClauses P) (closingClauses P)
-      (Clauses.all-both s (optionClauses P) (tableClauses P)
-      (Clauses.joined-all s (λ i. onlyIf (not (universal i)) (atLeastOne P i ∷ [])) n
-      λ i h. Clauses.if-all s (not (universal i)) (atLeastOne P i ∷ []) λ e. Clauses.one-all s (atLeastOne P i) (y .option i h (fails (T-not (universal i) e))))
-      (Clauses.joined-all s (λ i. joined (λ j. onlyIf (ltb i j && constrained i j) (constraintClauses P i j)) n) n
-      λ i hi. Clauses.joined-all s (λ j. onlyIf (ltb i j && constrained i j) (constraintClauses P i j)) n
-      λ j hj. Clauses.if-all s (ltb i j && constrained i j) (constraintClauses P i j)
-      λ k. let q = and-out (ltb i j) (constrained i j) k in
-      Clauses.joined-all s (λ a. joined (λ b. onlyIf (clash P i a j b) (clashClauses P i a j b)) 16) 16
-      λ a la. Clauses.joined-all s (λ b. onlyIf (clash P i a j b) (clashClauses P i a j b)) 16
-      λ b lb. Clauses.if-all s (clash P i a j b) (clashClauses P i a j b)
-      λ x. Clauses.joined-all s (λ c. onlyIf (stands P i c a) (joined (λ e. onlyIf (stands P j e b) ((denial P i c ++ denial P j e) ∷ [])) (ways P j))) (ways P i)
-      λ c lc. Clauses.if-all s (stands P i c a) (joined (λ e. onlyIf (stands P j e b) ((denial P i c ++ denial P j e) ∷ [])) (ways P j))
-      λ sc. Clauses.joined-all s (λ e. onlyIf (stands P j e b) ((denial P i c ++ denial P j e) ∷ [])) (ways P j)
-      λ e le. Clauses.if-all s (stands P j e b) ((denial P i c ++ denial P j e) ∷ [])
-      λ se. Clauses.one-all s (denial P i c ++ denial P j e) (y .apart i j (ltb→lt i j (q .0)) hj (q .1) a b la lb x c e lc sc le se)))
-      (Clauses.if-all s (closes P) ((record { positive = true; boolean = fresh P } ∷ []) ∷ [])
-      λ c. Clauses.one-all s (record { positive = true; boolean = fresh P } ∷ []) (Clauses.literal-one s (record { positive = true; boolean = fresh P }) (positive-holds s (fresh P) (y .closed c))))
+      Clauses.have-all s (formulaOf P .clauses) (all-forms (λ c. T (clauseHolds s c)) P record {
+        option = y .option;
+        apart = y .apart;
+        closing = λ c. Clauses.literal-one s (record { positive = true; boolean = fresh P }) (positive-holds s (fresh P) (y .closed c));
+      })
 
   -- A clash and its parts.
   clash-bad : (i a j b : ℕ) → T (clash P i a j b) → T (compatible i a j b) → ⊥

@@ -5,6 +5,12 @@
 pub mod JoinedLaws
 -- How many values, booleans and ways a variable has, and how many booleans come before it.
 pub mod Widths
+-- Each clause of a problem's formula, by its form.
+pub mod Forms
+-- How many booleans there are.
+pub mod PrefixLaws
+-- Booleans and literals ascend.
+pub mod OrderLaws
 -- Clauses that hold, by their parts.
 pub mod Clauses
 -- Blocks of booleans under one quantifier.

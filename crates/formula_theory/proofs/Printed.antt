@@ -4,10 +4,9 @@ use mathlib.Core.Bool.{Bool, true, false, cond, not, _&&_}
 use mathlib.Core.List.{List, [], _∷_, _++_}
 use Prim.Native.Nat.{ℕ, zero, suc, _+_, _-_, _≤_, _<_}
 use native.Mathlib.Omega.{arith}
-use lib.Dec.{T, ltb, ltb→lt, T-not}
+use lib.Dec.{ltb}
 use lib.ListN.{length, length-append}
 use Rattle.mask.specs.Mask.{bit}
-use Rattle.mask.proofs.Logic.{fails, and-out}
 use Rattle.game.specs.Problem.{Problem}
 use Rattle.buffer.specs.Stored.{joined}
 use Rattle.formula.specs.Formula.{Literal, Quantified, onlyIf}
@@ -15,7 +14,9 @@ use Rattle.formula.specs.Encoding.{run, size, width, base, booleanOf, ways, sta
 use Rattle.formula.specs.Text.{readText, textOf}
 use Rattle.formula_theory.proofs.JoinedLaws.{joined-most, joined-has, one-each, if-most}
 use Rattle.formula_theory.proofs.Widths.{width-existential, width-some, ways-existential, ways-most, base-before, base-suc, base-all}
-use Rattle.formula_theory.proofs.ReadBack.{bound, Numbered, fits, allFit, allNumbered, Plain, read-back}
+use Rattle.formula_theory.proofs.Forms.{Forms, all-forms}
+use Rattle.formula_theory.proofs.PrefixLaws.{booleans-all, booleans-most, base-some}
+use Rattle.formula_theory.proofs.ReadBack.{bound, Numbered, fits, allNumbered, Plain, read-back}
 
 -- ---- clauses that fit
 
@@ -33,26 +34,6 @@ fits-one : (l : Literal) → Numbered (l .boolean) → fits (l ∷ [])
 unfolding fits
 fits-one l h = (h, tt)
 
-module _ (most : ℕ) where
-  fit-both : (xs ys : List (List Literal)) → allFit most xs → allFit most ys → allFit most (xs ++ ys)
-  unfolding allFit
-  fit-both [] ys f g = g
-  fit-both (c ∷ xs) ys f g = (f .0, f .1, fit-both xs ys (f .2) g)
-
-  fit-if : (b : Bool) (xs : List (List Literal)) → (T b → allFit most xs) → allFit most (onlyIf b xs)
-  unfolding onlyIf allFit
-  fit-if true xs f = f tt
-  fit-if false xs f = tt
-
-  fit-joined : (g : ℕ → List (List Literal)) (k : ℕ) → ((i : ℕ) → i < k → allFit most (g i)) → allFit most (joined g k)
-  unfolding joined allFit
-  fit-joined g zero f = tt
-  fit-joined g (suc k) f = fit-both (joined g k) (g k) (fit-joined g k (λ i h. f i (omega arith))) (f k (omega arith))
-
-  fit-one : (c : List Literal) → length c < most → fits c → allFit most (c ∷ [])
-  unfolding allFit
-  fit-one c h f = (h, f, tt)
-
 run-numbered : (u : Bool) (v k : ℕ) (qs : List Quantified) → 0 < v → v + k ≤ bound → allNumbered qs → allNumbered (run u v k ++ qs)
 unfolding run allNumbered
 run-numbered u v zero qs h l f = f
@@ -63,17 +44,8 @@ unfolding onlyIf allNumbered
 closed-numbered true v h = (h, tt)
 closed-numbered false v h = tt
 
-length-run : (u : Bool) (v k : ℕ) (qs : List Quantified) → length (run u v k ++ qs) ≡ k + length qs
-unfolding run
-length-run u v zero qs = omega arith
-length-run u v (suc k) qs = let r = length-run u (suc v) k qs in omega arith
-
 module _ (P : Problem) (some : 0 < P .n) (many : P .n ≤ 32) where
   open Problem P using (n, universal, constrained)
-
-  any : 0 < base P n
-  unfolding base
-  any = let a = base-before P 1 n some in let w = width-some P 0 some in let e : base P 1 ≡ base P 0 + width P 0 = base-suc P 0 in omega arith
 
   numbered : (i t : ℕ) → i < n → t < width P i → Numbered (booleanOf P i t)
   unfolding booleanOf
@@ -84,24 +56,6 @@ module _ (P : Problem) (some : 0 < P .n) (many : P .n ≤ 32) where
   fresh-numbered = let a = base-all P many in (omega arith, omega arith)
 
   -- ---- the prefix
-
-  closing : ℕ
-  closing = length (prefixFrom P 0 n)
-
-  closing-small : closing ≤ 1
-  unfolding closing prefixFrom
-  closing-small = if-most (closes P) (record { universal = false; boolean = fresh P } ∷ []) 1 (omega arith)
-
-  base-none : base P 0 ≡ 0
-  unfolding base
-  base-none = refl
-
-  prefix-length : (k i : ℕ) → k + i ≡ n → length (prefixFrom P k i) + base P i ≡ base P n + closing
-  unfolding prefixFrom closing
-  prefix-length zero i e = let z : i ≡ n = omega arith in rw z (omega arith)
-  prefix-length (suc k) i e =
-      let r = prefix-length k (suc i) (omega arith) in
-      omega (arith, r, length-run (universal i) (suc (base P i)) (width P i) (prefixFrom P k (suc i)), base-suc P i)
 
   prefix-numbered : (k i : ℕ) → k + i ≡ n → allNumbered (prefixFrom P k i)
   unfolding prefixFrom
@@ -130,35 +84,18 @@ module _ (P : Problem) (some : 0 < P .n) (many : P .n ≤ 32) where
   two-widths : (i j : ℕ) → i < j → j < n → width P i + width P j ≤ base P n
   two-widths i j h l = let a = base-before P (suc i) j h in let b = base-before P (suc j) n l in let x = base-suc P i in let y = base-suc P j in omega arith
 
-  module _ (most : ℕ) (enough : base P n < most) where
-    options-fit : allFit most (optionClauses P)
-    unfolding optionClauses atLeastOne
-    options-fit = fit-joined most (λ i. onlyIf (not (universal i)) (atLeastOne P i ∷ [])) n λ i h. fit-if most (not (universal i)) (atLeastOne P i ∷ []) λ e.
-        let z : universal i ≡ false = fails (T-not (universal i) e) in let w = width-existential P i z in
-        let g : ℕ → Literal = λ t. record { positive = true; boolean = booleanOf P i t } in
+  forms-fit : (most : ℕ) → base P n < most → Forms (λ c. (length c < most) × fits c) P
+  unfolding atLeastOne
+  forms-fit most enough = record {
+    option = λ i h e.
+        let w = width-existential P i e in let g : ℕ → Literal = λ t. record { positive = true; boolean = booleanOf P i t } in
         let l = one-each g (size P i) in let b = base-before P (suc i) n h in let s = base-suc P i in
-        fit-one most (atLeastOne P i) (omega arith) (fits-each g (size P i) (λ t m. numbered i t h (omega arith)))
-
-    tables-fit : allFit most (tableClauses P)
-    unfolding tableClauses constraintClauses clashClauses
-    tables-fit = fit-joined most (λ i. joined (λ j. onlyIf (ltb i j && constrained i j) (constraintClauses P i j)) n) n
-        λ i hi. fit-joined most (λ j. onlyIf (ltb i j && constrained i j) (constraintClauses P i j)) n
-        λ j hj. fit-if most (ltb i j && constrained i j) (constraintClauses P i j)
-        λ k. let o = ltb→lt i j (and-out (ltb i j) (constrained i j) k .0) in
-        fit-joined most (λ a. joined (λ b. onlyIf (clash P i a j b) (clashClauses P i a j b)) 16) 16
-        λ a la. fit-joined most (λ b. onlyIf (clash P i a j b) (clashClauses P i a j b)) 16
-        λ b lb. fit-if most (clash P i a j b) (clashClauses P i a j b)
-        λ x. fit-joined most (λ c. onlyIf (stands P i c a) (joined (λ e. onlyIf (stands P j e b) ((denial P i c ++ denial P j e) ∷ [])) (ways P j))) (ways P i)
-        λ c lc. fit-if most (stands P i c a) (joined (λ e. onlyIf (stands P j e b) ((denial P i c ++ denial P j e) ∷ [])) (ways P j))
-        λ sc. fit-joined most (λ e. onlyIf (stands P j e b) ((denial P i c ++ denial P j e) ∷ [])) (ways P j)
-        λ e le. fit-if most (stands P j e b) ((denial P i c ++ denial P j e) ∷ [])
-        λ se. let u = denial-fits i c hi lc in let w = denial-fits j e hj le in let t = two-widths i j o hj in
-        fit-one most (denial P i c ++ denial P j e) (omega (arith, length-append (denial P i c) (denial P j e), u .1, w .1)) (fits-both (denial P i c) (denial P j e) (u .0) (w .0))
-
-    closing-fits : allFit most (closingClauses P)
-    unfolding closingClauses
-    closing-fits = fit-if most (closes P) ((record { positive = true; boolean = fresh P } ∷ []) ∷ [])
-        λ c. fit-one most (record { positive = true; boolean = fresh P } ∷ []) (let a = any in omega arith) (fits-one (record { positive = true; boolean = fresh P }) fresh-numbered)
+        (omega arith, fits-each g (size P i) (λ t m. numbered i t h (omega arith)));
+    apart = λ i j o hj k a b la lb x c e lc sc le se.
+        let u = denial-fits i c (omega arith) lc in let w = denial-fits j e hj le in let t = two-widths i j o hj in
+        (omega (arith, length-append (denial P i c) (denial P j e), u .1, w .1), fits-both (denial P i c) (denial P j e) (u .0) (w .0));
+    closing = λ c. let a = base-some P some in (omega arith, fits-one (record { positive = true; boolean = fresh P }) fresh-numbered);
+  }
 
   -- How many clauses there are at most: of a clash, of a constraint, of all.
   clash-many : (i a j b : ℕ) → length (clashClauses P i a j b) ≤ 256
@@ -215,17 +152,14 @@ module _ (P : Problem) (some : 0 < P .n) (many : P .n ≤ 32) where
   pub formula-plain : Plain (formulaOf P)
   unfolding formulaOf
   formula-plain =
-      let e = prefix-length n 0 (omega arith) in let z : base P 0 ≡ 0 = base-none in let c = closing-small in let a = base-all P many in let s = any in
+      let e = booleans-all P in let l = booleans-most P some many in let s = base-some P some in
       let x = length-append (optionClauses P ++ tableClauses P) (closingClauses P) in let y = length-append (optionClauses P) (tableClauses P) in
       let m1 = options-many in let m2 = tables-many in let m3 = closing-many in
-      let enough : base P n < suc (length (prefixFrom P n 0)) = omega arith in
       record {
         prefix = prefix-numbered n 0 (omega arith);
         some = omega arith;
         count = omega arith;
-        clauses = fit-both (suc (length (prefixFrom P n 0))) (optionClauses P ++ tableClauses P) (closingClauses P)
-            (fit-both (suc (length (prefixFrom P n 0))) (optionClauses P) (tableClauses P) (options-fit (suc (length (prefixFrom P n 0))) enough) (tables-fit (suc (length (prefixFrom P n 0))) enough))
-            (closing-fits (suc (length (prefixFrom P n 0))) enough);
+        clauses = all-forms (λ c. (length c < suc (length (prefixFrom P n 0))) × fits c) P (forms-fit (suc (length (prefixFrom P n 0))) (omega arith));
         many = omega arith;
         first = some-clause;
       }

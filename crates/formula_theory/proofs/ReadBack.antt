@@ -17,6 +17,7 @@ use Rattle.buffer.specs.Stored.{together}
 use Rattle.buffer.proofs.DecimalLaws.{decimal-one, decimal-more, decimal-short}
 use Rattle.formula.specs.Formula.{Literal, Quantified, Formula}
 use Rattle.formula.specs.Text
+use Rattle.formula_theory.proofs.Forms.{allHave}
 
 -- The list g stands in t at p.
 abbrev pub At : List ℕ → ℕ → List ℕ → Type 0
@@ -167,16 +168,15 @@ clause-at t (suc k) p (l ∷ ls) h f a =
 
 -- ---- clauses
 
-unfoldable pub allFit : ℕ → List (List Literal) → Type 0
-allFit most [] = Unit {0}
-allFit most (c ∷ cs) = (length c < most) × fits c × allFit most cs
+abbrev pub allFit : ℕ → List (List Literal) → Type 0
+allFit most = allHave (λ c. (length c < most) × fits c)
 
 clauses-at : (t : List ℕ) (most p : ℕ) (cs : List (List Literal)) → allFit most cs → At t p (Text.clausesText cs) → Text.clausesAt t most (length cs) p ≡ cs
-unfolding Text.clausesText Text.clausesAt allFit
+unfolding Text.clausesText Text.clausesAt allHave
 clauses-at t most p [] f a = refl
 clauses-at t most p (c ∷ cs) f a =
-    let r = clause-at t most p c (f .0) (f .1) (at-left t p (Text.clauseText c) (Text.clausesText cs) a) in
-    let ih = clauses-at t most (Text.endAt t most p) cs (f .2) (at-right t p (Text.endAt t most p) (Text.clauseText c) (Text.clausesText cs) (sym (r .1)) a) in
+    let r = clause-at t most p c (f .0 .0) (f .0 .1) (at-left t p (Text.clauseText c) (Text.clausesText cs) a) in
+    let ih = clauses-at t most (Text.endAt t most p) cs (f .1) (at-right t p (Text.endAt t most p) (Text.clauseText c) (Text.clausesText cs) (sym (r .1)) a) in
     rw (r .0, ih)
 
 -- ---- the prefix
@@ -319,9 +319,9 @@ clause-no-letter t p (l ∷ ls) f a =
     go false a = let z : getD t p 0 ≡ 45 = at-byte t p 45 (decimal (l .boolean)) a in rw z
 
 clauses-no-letter : (t : List ℕ) (p most : ℕ) (cs : List (List Literal)) → 0 < length cs → allFit most cs → At t p (Text.clausesText cs) → Text.isLetter (getD t p 0) ≡ false
-unfolding Text.clausesText allFit
+unfolding Text.clausesText allHave
 clauses-no-letter t p most [] h f a = absurd (omega arith)
-clauses-no-letter t p most (c ∷ cs) h f a = clause-no-letter t p c (f .1) (at-left t p (Text.clauseText c) (Text.clausesText cs) a)
+clauses-no-letter t p most (c ∷ cs) h f a = clause-no-letter t p c (f .0 .1) (at-left t p (Text.clauseText c) (Text.clausesText cs) a)
 
 -- The lines of the prefix at p, and where they end.
 prefix-at : (t : List ℕ) (most m p : ℕ) (qs : List Quantified) → 0 < length qs → length qs < most → length qs ≤ m → allNumbered qs → At t p (Text.prefixText qs)

@@ -8,8 +8,8 @@ use lib.Dec.{leb, leb→le, le→leb}
 use lib.ListN.{getD}
 use Rattle.mask.specs.Range.{count, first}
 use Rattle.mask.specs.Mask.{bit}
-use Rattle.mask.proofs.Logic.{fails, by-lt}
-use Rattle.mask.proofs.Range.{first-below, first-of, count-bound}
+use Rattle.mask.proofs.Logic.{fails, clash, by-lt}
+use Rattle.mask.proofs.Range.{first-below, first-least, first-of, count-bound}
 use Rattle.mask.proofs.Places.{place-below}
 use Rattle.mask.proofs.Bits.{bit-none}
 use Rattle.game.specs.Problem.{Problem}
@@ -41,6 +41,17 @@ unfolding bitsFor
 enough d h =
     leb→le d (2 ^ suc (first 4 (λ k. leb d (2 ^ suc k))))
     (first-of 4 (λ k. leb d (2 ^ suc k)) (bits-most d h))
+
+-- And no more than needed: less than twice the values, or two codes of one value.
+pub bits-twice : (d : ℕ) → 0 < d → 2 ^ bitsFor d ≤ 2 * d
+unfolding bitsFor
+bits-twice d h = go (first 4 (λ k. leb d (2 ^ suc k))) (first-least 4 (λ k. leb d (2 ^ suc k)))
+  where
+    go : (f : ℕ) → ((k : ℕ) → k < f → leb d (2 ^ suc k) ≡ false) → 2 ^ suc f ≤ 2 * d
+    go zero least = omega arith
+    go (suc k) least =
+        by-lt (2 ^ suc k) d (λ l. let e : 2 ^ suc (suc k) ≡ 2 ^ suc k * 2 = simp unary-clauses in rw e (omega arith))
+        λ l. absurd (clash (least k (omega arith)) (le→leb d (2 ^ suc k) l))
 
 -- ---- of a variable
 
@@ -106,6 +117,14 @@ module _ (P : Problem) where
       go : (b : Bool) → universal i ≡ b → ways P i ≤ 16
       go true e = rw (ways-universal i e) (power (width P i) (width-few i e))
       go false e = rw (ways-existential i e) (size-most i)
+
+  -- No more than two ways for each value.
+  pub ways-twice : (i : ℕ) → i < n → (size P i ≤ ways P i) × (ways P i ≤ 2 * size P i)
+  ways-twice i h = (size-ways i, go (universal i) refl)
+    where
+      go : (b : Bool) → universal i ≡ b → ways P i ≤ 2 * size P i
+      go true e = rw (ways-universal i e, width-universal i e) (bits-twice (size P i) (size-some i h))
+      go false e = rw (ways-existential i e) (omega arith)
 
   -- ---- booleans before a variable
 
