@@ -13,23 +13,30 @@
 
 typedef enum {
     INTERFACE, READ, LOOK_UP, WRITE, REPORT, PLAY, TAKE_BACK, SESSION_PLAY, SESSION_TAKE_BACK, OPEN, JUDGE, MARK, JUDGE_IN, MARK_IN, SEARCH,
-    REPLAY, ARC, FORWARD_CHECK, LOOK_AHEAD, PURE, INTERCHANGEABLE, ENTRIES
+    REPLAY, ARC, FORWARD_CHECK, LOOK_AHEAD, PURE, INTERCHANGEABLE, FORMULA, JUDGE_FORMULA, ENTRIES
 } entry;
 
 static const char *const names[ENTRIES] = {
     "kb_interface", "kb_read", "kb_look_up", "kb_write", "kb_report", "kb_play", "kb_take_back", "kb_session_play", "kb_session_take_back",
     "kb_open", "kb_judge", "kb_mark", "kb_judge_in", "kb_mark_in", "kb_search", "kb_replay", "kb_arc", "kb_forward_check", "kb_look_ahead",
-    "kb_pure", "kb_interchangeable",
+    "kb_pure", "kb_interchangeable", "kb_formula", "kb_judge_formula",
 };
 
+/* The most bytes that a call is lent, whole pages. */
+enum { MOST = 16 * PAGE };
+
 /* What a call is given. `job` has the numbers of the file; `number` and `place` say why the file is refused, 0 and 0 if it is accepted.
-   `lent` is the memory that the call may write, or the list that it reads, and `size` its bytes; `list` is what a lent list holds. From n
-   on stands what kb_write is handed, its rule set as `set`. */
+   `text` is the text of the job's formula, its first MOST bytes; `soon` says that its judge ends soon, however many booleans it has. `lent`
+   is the memory that the call may write, or the list that it reads, and `size` its bytes; `list` is what a lent list holds. From n on
+   stands what kb_write is handed, its rule set as `set`. */
 typedef struct {
     const job *job;
     const uint8_t *file;
     size_t length;
     uint64_t number, place;
+    const uint8_t *text;
+    size_t text_length;
+    int soon;
     kb_position position;
     uint64_t rules, option, i, j, x, a;
     const uint8_t *calls;
@@ -58,8 +65,9 @@ typedef struct {
         kb_replayed replayed;
         kb_ruled ruled;
         kb_values values;
+        kb_formula_judgement formula_judgement;
     } reply;
-    uint8_t lent[KB_FILE + 100];
+    uint8_t lent[MOST];
 } outcome;
 
 _Static_assert(sizeof(kb_opened) == 24 + 96 && sizeof(kb_searched) == 48 + 128 && sizeof(kb_moved) == 24 + 40, "replies without padding");
@@ -71,15 +79,23 @@ static int threads;
 
 /* ---- one call */
 
-static int lends_list(entry e) { return e >= ARC; }
+static int lends_list(entry e) { return e >= ARC && e <= INTERCHANGEABLE; }
 static int lends_session(entry e) { return e == SESSION_PLAY || e == SESSION_TAKE_BACK; }
 static int lends_room(entry e) { return e == JUDGE_IN || e == MARK_IN; }
+static int writes_formula(entry e) { return e == FORMULA || e == JUDGE_FORMULA; }
 static size_t room_bytes(const job *j) { return 2 * 128 * (j->n + 1); }
 
-/* How much memory this entry is lent in an ordinary call. */
-static size_t ordinary_size(entry e, const job *j) {
+/* How much memory this entry is lent in an ordinary call. A formula's text of more than MOST bytes does not fit then. */
+static size_t ordinary_size(entry e, const arguments *g) {
+    const job *j = g->job;
     return e == WRITE ? job_length(j) : e == REPORT ? KB_TEXT : lends_session(e) ? sizeof(kb_session) : lends_room(e) ? room_bytes(j)
-         : lends_list(e) ? 2 * j->n : 0;
+         : lends_list(e) ? 2 * j->n : writes_formula(e) ? (g->text_length < MOST ? g->text_length : MOST) : 0;
+}
+
+/* Whether to make the call with this much memory. The judge of formulas may go through all values of all booleans: it is asked only where
+   these are few, where it is known to end soon, and where it refuses. */
+static int asked(entry e, const arguments *g, size_t size) {
+    return e != JUDGE_FORMULA || g->number != 0 || size < g->text_length || g->soon || boolean_count(g->job) <= 24;
 }
 
 /* What the lent memory holds before the call. */
@@ -122,6 +138,8 @@ static void call(entry e, const arguments *g, outcome *o) {
     case LOOK_AHEAD: o->reply.ruled = kb_look_ahead(f, l, words, w, g->x); break;
     case PURE: o->reply.values = kb_pure(f, l, words, w, g->x); break;
     case INTERCHANGEABLE: o->reply.values = kb_interchangeable(f, l, words, w, g->x); break;
+    case FORMULA: o->reply.written = kb_formula(f, l, g->lent, g->size); break;
+    case JUDGE_FORMULA: o->reply.formula_judgement = kb_judge_formula(f, l, g->lent, g->size); break;
     case ENTRIES: break;
     }
     if (g->size != 0) memcpy(o->lent, g->lent, g->size);
@@ -162,6 +180,7 @@ static uint64_t refused(entry e, const arguments *g) {
     if (e == LOOK_UP) return g->i < g->j && g->j < j->n ? 0 : 11;
     if (e == REPLAY) return g->rules > 127 ? 8 : 0;
     if (e < PLAY) return 0;
+    if (writes_formula(e)) return g->size < g->text_length ? 12 : 0;
     if (lends_list(e)) {
         if (!fits_list(g)) return 13;
         if (e != ARC && g->x >= j->n) return 11;
@@ -298,6 +317,14 @@ static void expect(entry e, const arguments *g, outcome *o, const outcome *got) 
     case FORWARD_CHECK: o->reply.ruled.lost = (uint64_t)forward(j, list, g->x, (unsigned)g->a), memcpy(o->lent, list, g->size); break;
     case LOOK_AHEAD: o->reply.ruled.lost = (uint64_t)ahead(j, list, g->x); break;
     case PURE: case INTERCHANGEABLE: o->reply.values.values = kept(j, list, g->x, e == PURE); break;
+    case FORMULA:
+        o->reply.written.length = g->text_length;
+        memcpy(o->lent, g->text, g->text_length);
+        break;
+    case JUDGE_FORMULA:
+        o->reply.formula_judgement.won = (uint64_t)verdict(j, (kb_position){0, {0}}), o->reply.formula_judgement.length = g->text_length;
+        memcpy(o->lent, g->text, g->text_length);
+        break;
     default: break;
     }
 }
@@ -313,6 +340,7 @@ static void compare(const char *what, entry e, const void *got, const void *want
 /* Makes the call and compares its reply and the memory lent to it. */
 static void attempt(const char *what, entry e, const arguments *g) {
     static outcome got, want;
+    if (!asked(e, g, g->size)) return;
     fill(e, g, g->lent);
     call(e, g, &got);
     expect(e, g, &want, &got);
@@ -323,17 +351,17 @@ static void attempt(const char *what, entry e, const arguments *g) {
 /* ---- memory to lend */
 
 enum { HEAP, LOW, HIGH, WAYS };
-enum { FILES, LENT, LISTS, PLACES, ARENA = 5 * PAGE };
+enum { FILES, LENT, LISTS, PLACES };
 
 static uint8_t *arenas[PLACES];
 static void *blocks[PLACES];
 
 /* Exactly this many bytes: a block of the heap, or the bytes behind or before an unreadable page. Good until the next of its place. */
 static uint8_t *lend(int place, int way, size_t size) {
-    if (arenas[place] == NULL) arenas[place] = between_pages(ARENA);
+    if (arenas[place] == NULL) arenas[place] = between_pages(MOST);
     free(blocks[place]);
     blocks[place] = way == HEAP ? malloc(size) : NULL;
-    return way == HEAP ? blocks[place] : way == LOW ? arenas[place] : arenas[place] + ARENA - size;
+    return way == HEAP ? blocks[place] : way == LOW ? arenas[place] : arenas[place] + MOST - size;
 }
 
 static void *lend_copy(int place, int way, const void *bytes, size_t size) {
@@ -342,15 +370,16 @@ static void *lend_copy(int place, int way, const void *bytes, size_t size) {
     return to;
 }
 
-static uint8_t bytes[KB_FILE + 1];
+static uint8_t bytes[KB_FILE + 1], formula[MOST];
 
-/* An ordinary call on this job, its file in `bytes`. */
+/* An ordinary call on this job, its file in `bytes` and its formula's text in `formula`. */
 static arguments ordinary(const job *j) {
     static const uint8_t calls[] = {0, 2, 255, 255, 255, 2, 7, 15};
-    arguments g = {.job = j, .file = bytes, .length = job_length(j), .rules = 127, .j = 1, .calls = calls, .call_count = sizeof calls,
-                   .n = j->n, .m = j->m, .given = j->given, .set = j->rules, .universal = j->universal, .domains = j->domains,
-                   .domain_count = j->n, .tables = j->tables, .table_count = TABLE * j->m};
+    arguments g = {.job = j, .file = bytes, .length = job_length(j), .text = formula, .rules = 127, .j = 1, .calls = calls,
+                   .call_count = sizeof calls, .n = j->n, .m = j->m, .given = j->given, .set = j->rules, .universal = j->universal,
+                   .domains = j->domains, .domain_count = j->n, .tables = j->tables, .table_count = TABLE * j->m};
     job_bytes(j, bytes);
+    g.text_length = formula_text(j, formula, sizeof formula);
     memcpy(g.list, j->domains, sizeof j->domains);
     return g;
 }
@@ -363,7 +392,7 @@ static void attempt_with(const char *what, entry e, arguments g, int way, size_t
 }
 
 static void attempt_each(const char *what, const arguments *g, int way) {
-    for (entry e = 0; e < ENTRIES; e++) attempt_with(what, e, *g, way, ordinary_size(e, g->job));
+    for (entry e = 0; e < ENTRIES; e++) attempt_with(what, e, *g, way, ordinary_size(e, g));
 }
 
 /* How far to go on to the next of many: in a run with fewer threads, to a few of them. */
@@ -375,19 +404,27 @@ static uint16_t some_option(uint16_t mask) {
     return (uint16_t)a;
 }
 
+/* Leaves choice k the options of this mask alone, some of which it has. */
+static void narrow(job *j, uint64_t k, uint16_t mask) {
+    j->domains[k] &= mask;
+    for (uint16_t *t = j->tables; t < j->tables + TABLE * j->m; t += TABLE)
+        for (unsigned a = 0; a < 16; a++) {
+            if (t[0] == k && !has(mask, a)) t[2 + a] = 0;
+            if (t[1] == k) t[2 + a] &= mask;
+        }
+}
+
+/* All options, about half of them or about a quarter, and one at least. */
+static uint16_t some_mask(void) {
+    uint64_t half = drawn(), other = drawn(), kind = drawn() % 3;
+    return (uint16_t)((kind == 0 ? 0xffff : kind == 1 ? half : half & other) | 1u << drawn() % 16);
+}
+
 static void some_job(job *j) {
     static const uint16_t options[] = {0x8005, 3, 0xa001, 0x0180};
     make_job(j, 1 + drawn() % 5, options[drawn() % 4], drawn() % 70, 30 + drawn() % 71, drawn() % 60);
     for (uint64_t k = 0; k < j->n; k++)
-        if (drawn() % 4 == 0) {
-            uint16_t a = some_option(j->domains[k]), only = (uint16_t)(1u << a);
-            j->domains[k] = only;
-            for (uint16_t *t = j->tables; t < j->tables + TABLE * j->m; t += TABLE)
-                for (unsigned b = 0; b < 16; b++) {
-                    if (t[0] == k && b != a) t[2 + b] = 0;
-                    if (t[1] == k) t[2 + b] &= only;
-                }
-        }
+        if (drawn() % 4 == 0) narrow(j, k, (uint16_t)(1u << some_option(j->domains[k])));
     j->given = drawn() % 2, j->rules = drawn() % 128;
 }
 
@@ -417,7 +454,7 @@ static job made;
 /* No memory: NULL, and a pointer to an unreadable page. */
 static void nothing(void) {
     static const job none;
-    uint8_t *unreadable = lend(LENT, LOW, 0) + ARENA;
+    uint8_t *unreadable = lend(LENT, LOW, 0) + MOST;
     for (int k = 0; k < 2; k++) {
         uint8_t *nowhere = k ? unreadable : NULL;
         kb_session session;
@@ -483,8 +520,10 @@ static void cuts_of(const job *j, size_t by) {
             if (wrong) h.rules = 256, h.position.plays = UINT64_MAX, h.list[0] = 0, h.i = h.x = h.a = h.option = UINT64_MAX;
             for (int way = 0; way < WAYS; way++) {
                 h.file = lend_copy(FILES, way, bytes, length);
-                for (entry e = 0; e < ENTRIES; e++)
-                    if (e != WRITE) attempt_with("cut", e, h, way, lends_room(e) && wrong ? 2 : ordinary_size(e, j));
+                for (entry e = 0; e < ENTRIES; e++) {
+                    int little = wrong && (lends_room(e) || writes_formula(e));
+                    if (e != WRITE) attempt_with("cut", e, h, way, little ? 2 : ordinary_size(e, &h));
+                }
             }
         }
     }
@@ -556,7 +595,7 @@ static void several(void) {
         if (drawn() % 4 == 0) g.list[drawn() % made.n] = drawn() % 2 ? 0 : 0xffff;
         if (drawn() % 4 == 0) g.position.values[drawn() % 32] = (uint8_t)drawn();
         for (entry e = 0; e < ENTRIES; e++) {
-            size_t size = ordinary_size(e, &made);
+            size_t size = ordinary_size(e, &g);
             attempt_with("several at once", e, g, HEAP, !lends_session(e) && size != 0 && drawn() % 4 == 0 ? size - 2 : size);
         }
     }
@@ -571,14 +610,14 @@ static void positions(void) {
             for (uint64_t plays = 0; plays <= made.n + 1; plays++) {
                 g.position = some_position(&made, plays);
                 g.position.values[place] = (uint8_t)value;
-                for (entry e = PLAY; e <= OPEN; e++) attempt_with("a byte of a position", e, g, HEAP, ordinary_size(e, &made));
+                for (entry e = PLAY; e <= OPEN; e++) attempt_with("a byte of a position", e, g, HEAP, ordinary_size(e, &g));
                 if (value % 16 == 1 || place < made.n) attempt_with("a byte of a position", JUDGE, g, HEAP, 0);
             }
     for (uint64_t round = 0; round < 40; round += step(4)) {
         make_job(&made, 32, 6, 30, 5, 20);
         g = ordinary(&made);
         g.position = some_position(&made, 28 + round % 5);
-        for (entry e = PLAY; e <= SEARCH; e++) attempt_with("a long game", e, g, HEAP, ordinary_size(e, &made));
+        for (entry e = PLAY; e <= SEARCH; e++) attempt_with("a long game", e, g, HEAP, ordinary_size(e, &g));
     }
 }
 
@@ -605,6 +644,29 @@ static void wrong_lists(void) {
     }
 }
 
+/* Texts of formulas of up to MOST bytes and longer ones, of choices with any number of options, in buffers that are short, exact and
+   longer; then prefixes of hundreds of booleans: won by the first path, so for each option of a day's first choice, and lost at once. */
+static void formulas(void) {
+    arguments g;
+    for (uint64_t round = 0; round < 300; round += step(15)) {
+        make_job(&made, 1 + drawn() % 9, 0xffff, drawn() % 101, 20 + drawn() % 81, drawn() % 40);
+        for (uint64_t k = 0; k < made.n; k++) narrow(&made, k, some_mask());
+        g = ordinary(&made);
+        const size_t sizes[] = {0, 1, g.text_length / 2, g.text_length - 1, g.text_length, g.text_length + 1, g.text_length + 40};
+        for (int k = 0; k < WAYS * 7; k++)
+            for (entry e = FORMULA; e <= JUDGE_FORMULA && sizes[k / WAYS] <= MOST; e++)
+                attempt_with("a formula", e, g, k % WAYS, sizes[k / WAYS]);
+    }
+    for (int round = 0; round < 3; round++) {
+        make_job(&made, 32, 0xffff, 0, 0, 0);
+        if (round == 1) made.universal = 1;
+        if (round == 2) made.m = made.tables[1] = 1, narrow(&made, 0, 3), narrow(&made, 1, 6);
+        g = ordinary(&made);
+        g.soon = 1;
+        for (int way = 0; way < WAYS; way++) attempt_with("a long prefix", JUDGE_FORMULA, g, way, g.text_length);
+    }
+}
+
 /* Memory that is short by any size, exact, and longer, and lists that fit or do not. */
 static void sizes(void) {
     for (int way = 0; way < WAYS; way++) {
@@ -613,6 +675,10 @@ static void sizes(void) {
         g.position = (kb_position){1, {2}};
         for (size_t size = 0; size <= job_length(&made) + 40; size++) attempt_with("a buffer", WRITE, g, way, size);
         for (size_t size = 0; size <= KB_TEXT; size += size < 200 ? 1 : 103) attempt_with("a buffer", REPORT, g, way, size);
+        for (size_t size = 0; size <= g.text_length + 40; size += step(20)) {
+            attempt_with("a buffer", FORMULA, g, way, size);
+            attempt_with("a buffer", JUDGE_FORMULA, g, way, size);
+        }
         for (size_t size = 0; size <= room_bytes(&made) + 200; size += 2 * step(50)) {
             attempt_with("a room", JUDGE_IN, g, way, size);
             attempt_with("a room", MARK_IN, g, way, size);
@@ -622,12 +688,12 @@ static void sizes(void) {
             attempt_with("a room", MARK_IN, g, way, room_bytes(&made) - 4 + 2 * more);
         }
         for (size_t masks = 0; masks <= 40; masks++)
-            for (entry e = ARC; e < ENTRIES; e++) attempt_with("a list", e, g, way, 2 * masks);
+            for (entry e = ARC; e <= INTERCHANGEABLE; e++) attempt_with("a list", e, g, way, 2 * masks);
         for (unsigned at = 0; at < 3; at++)
             for (unsigned mask = 0; mask < 65536; mask += mask < 40 ? 1 : (unsigned)step(40) * 257) {
                 arguments h = g;
                 h.list[at] = (uint16_t)mask;
-                for (entry e = ARC; e < ENTRIES; e++) attempt_with("a mask of a list", e, h, way, 6);
+                for (entry e = ARC; e <= INTERCHANGEABLE; e++) attempt_with("a mask of a list", e, h, way, 6);
             }
     }
 }
@@ -651,7 +717,7 @@ static void overlaps(void) {
         memcpy(odd, bytes, g.length);
         g.file = odd, g.lent = odd + (n == 1 ? 7 : 17), g.size = 2 * n;
         memcpy(g.list, g.lent, g.size);
-        for (entry e = LOOK_AHEAD; e < ENTRIES; e++) attempt("a list in the file", e, &g);
+        for (entry e = LOOK_AHEAD; e <= INTERCHANGEABLE; e++) attempt("a list in the file", e, &g);
     }
     /* The last two domains are the pair of the only table; then lists that coincide and are refused. */
     make_job(&made, 3, 3, 0, 0, 0);
@@ -681,13 +747,13 @@ typedef struct {
     int variant;
     entry which;
     outcome got;
-    _Alignas(8) uint8_t memory[KB_FILE];
+    _Alignas(8) uint8_t memory[MOST];
     uint64_t wrong;
 } caller;
 
 static void call_own(caller *c) {
     arguments g = variants[c->variant];
-    g.size = ordinary_size(c->which, g.job), g.lent = c->memory;
+    g.size = ordinary_size(c->which, &g), g.lent = c->memory;
     fill(c->which, &g, c->memory);
     call(c->which, &g, &c->got);
 }
@@ -695,7 +761,13 @@ static void call_own(caller *c) {
 static int as_alone(const caller *c) {
     const outcome *want = &alone[c->variant][c->which];
     return memcmp(&c->got.reply, &want->reply, sizeof want->reply) == 0
-        && memcmp(c->got.lent, want->lent, ordinary_size(c->which, variants[c->variant].job)) == 0;
+        && memcmp(c->got.lent, want->lent, ordinary_size(c->which, &variants[c->variant])) == 0;
+}
+
+/* Whether the entry is called in the variant. */
+static int tried(const caller *c) {
+    const arguments *g = &variants[c->variant];
+    return asked(c->which, g, ordinary_size(c->which, g));
 }
 
 /* Every entry alone in every variant. */
@@ -703,6 +775,7 @@ static void call_alone(void) {
     static caller c;
     for (c.variant = 0; c.variant < VARIANTS; c.variant++)
         for (c.which = 0; c.which < ENTRIES; c.which++) {
+            if (!tried(&c)) continue;
             call_own(&c);
             alone[c.variant][c.which] = c.got;
         }
@@ -758,23 +831,26 @@ static void *call_once(void *with) {
     return NULL;
 }
 
-/* Every entry on a stack of KB_STACK bytes above an unreadable page, on jobs of 32 choices with every turn entered, after up to 3 plays.
-   CALLER is for the thread's own data and the frames above the call, with a sanitizer's additions. */
+/* Every entry on a stack of KB_STACK bytes above an unreadable page, on jobs of 32 choices with every turn entered, after up to 3 plays;
+   the judge of formulas on one of KB_FORMULA_STACK bytes, on 512 booleans in the last round. CALLER is for the thread's own data and the
+   frames above the call, with a sanitizer's additions. */
 static void small_stack(void) {
     static caller c;
-    enum { CALLER = 16384 };
-    uint8_t *stack = between_pages(KB_STACK + CALLER);
-    for (unsigned round = 0; round < 8; round++) {
-        make_job(&made, 32, 3, round % 2 ? 0 : 3, round % 3 ? 5 : 100, round * 2);
+    enum { CALLER = 16384, LAST = 8 };
+    uint8_t *stack = between_pages(KB_FORMULA_STACK + CALLER);
+    for (unsigned round = 0; round <= LAST; round++) {
+        if (round == LAST) make_job(&made, 32, 0xffff, 0, 0, 0);
+        else make_job(&made, 32, 3, round % 2 ? 0 : 3, round % 3 ? 5 : 100, round * 2);
         for (int v = 0; v < VARIANTS; v++) {
             static const uint64_t sets[VARIANTS] = {127, 3, 99, 63};
             variants[v] = ordinary(&made);
-            variants[v].position.plays = (uint64_t)v, variants[v].rules = sets[v];
+            variants[v].position.plays = (uint64_t)v, variants[v].rules = sets[v], variants[v].soon = round == LAST;
         }
         call_alone();
         for (c.variant = 0; c.variant < VARIANTS; c.variant++)
             for (c.which = 0; c.which < ENTRIES; c.which++) {
-                run_on(stack, KB_STACK + CALLER, call_once, &c);
+                if (!tried(&c)) continue;
+                run_on(stack, (c.which == JUDGE_FORMULA ? KB_FORMULA_STACK : KB_STACK) + CALLER, call_once, &c);
                 checks++;
                 if (as_alone(&c)) continue;
                 wrongs++;
@@ -797,6 +873,7 @@ int main(int count, char **words) {
     several();
     positions();
     wrong_lists();
+    formulas();
     sizes();
     overlaps();
     crowd();

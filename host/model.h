@@ -1,5 +1,5 @@
-/* The game and the first five rules on the numbers of a job, each as document 01 words it, for small jobs: a plain model beside which
-   the entries are tried. It shares nothing with the library. */
+/* The game and the first five rules on the numbers of a job, each as document 01 words it, for small jobs, and the text of the job's
+   formula, as card 1 of document 02 words it: a plain model beside which the entries are tried. It shares nothing with the library. */
 #ifndef MODEL_H
 #define MODEL_H
 
@@ -149,6 +149,110 @@ static kb_position standing(const job *j, const uint8_t *calls, size_t count) {
             if (p.plays > 0) p.values[--p.plays] = 0;
         } else if (p.plays < j->n && has(j->domains[p.plays], calls[c])) p.values[p.plays++] = calls[c];
     return p;
+}
+
+/* ---- the job's formula */
+
+/* A text of which the first `most` bytes are kept; `length` counts all. */
+typedef struct {
+    uint8_t *bytes;
+    size_t most, length;
+} writing;
+
+static void put_words(writing *t, const char *words) {
+    for (; *words != '\0'; words++, t->length++)
+        if (t->length < t->most) t->bytes[t->length] = (uint8_t)*words;
+}
+
+/* A number, after a sign or nothing and before a space or a line's end. */
+static void put_number(writing *t, const char *sign, unsigned number, const char *behind) {
+    char digits[] = "0000000000";
+    char *first = digits + sizeof digits - 1;
+    do *--first = (char)('0' + number % 10), number /= 10;
+    while (number != 0);
+    put_words(t, sign), put_words(t, first), put_words(t, behind);
+}
+
+/* A choice as booleans: its options ascending, the number of its first boolean, and how many it has. */
+typedef struct {
+    unsigned options[16], count, first, width;
+    int day;
+} coded;
+
+/* Codes the choices. How many booleans the formula has, the closing one too. */
+static unsigned code_choices(const job *j, coded *to) {
+    unsigned booleans = 0;
+    for (uint64_t k = 0; k < j->n; k++, to++) {
+        *to = (coded){.first = booleans + 1, .width = 1, .day = universal(j, k)};
+        for (unsigned a = 0; a < 16; a++)
+            if (has(j->domains[k], a)) to->options[to->count++] = a;
+        while (1u << to->width < to->count) to->width++;
+        if (!to->day) to->width = to->count;
+        booleans += to->width;
+    }
+    return booleans + (universal(j, j->n - 1) ? 1 : 0);
+}
+
+static unsigned boolean_count(const job *j) {
+    coded choices[32];
+    return code_choices(j, choices);
+}
+
+/* Its booleans. */
+static void put_own(writing *t, const coded *c) {
+    for (unsigned b = 0; b < c->width; b++) put_number(t, "", c->first + b, " ");
+}
+
+/* The codes of a day's choice, the booleans of a shift's: how many, and the literals that one of them makes false. */
+static unsigned codes(const coded *c) { return c->day ? 1u << c->width : c->width; }
+
+static void put_against(writing *t, const coded *c, unsigned code) {
+    if (!c->day) put_number(t, "-", c->first + code, " ");
+    for (unsigned bit = 0; c->day && bit < c->width; bit++) put_number(t, code >> bit & 1 ? "-" : "", c->first + bit, " ");
+}
+
+/* The clauses that keep the options at these places apart: how many. */
+static unsigned put_clash(writing *t, const coded *i, unsigned a, const coded *k, unsigned b) {
+    unsigned count = 0;
+    for (unsigned lower = 0; lower < codes(i); lower++)
+        for (unsigned higher = 0; lower % i->count == a && higher < codes(k); higher++) {
+            if (higher % k->count != b) continue;
+            put_against(t, i, lower), put_against(t, k, higher), put_words(t, "0\n");
+            count++;
+        }
+    return count;
+}
+
+/* All clauses: how many. */
+static unsigned put_clauses(writing *t, const job *j, const coded *choices, unsigned booleans) {
+    unsigned count = 0;
+    for (const coded *c = choices; c < choices + j->n; c++)
+        if (!c->day) put_own(t, c), put_words(t, "0\n"), count++;
+    for (const uint16_t *rows = j->tables; rows < j->tables + TABLE * j->m; rows += TABLE) {
+        const coded *i = choices + rows[0], *k = choices + rows[1];
+        for (unsigned a = 0; a < i->count; a++)
+            for (unsigned b = 0; b < k->count; b++)
+                if (!(rows[2 + i->options[a]] >> k->options[b] & 1)) count += put_clash(t, i, a, k, b);
+    }
+    if (choices[j->n - 1].day) put_number(t, "", booleans, " 0\n"), count++;
+    return count;
+}
+
+/* The text of the job's formula, so many bytes of it at most: its length. */
+static size_t formula_text(const job *j, uint8_t *bytes, size_t most) {
+    coded choices[32];
+    unsigned booleans = code_choices(j, choices);
+    writing none = {NULL, 0, 0}, t = {bytes, most, 0};
+    put_number(&t, "p cnf ", booleans, " ");
+    put_number(&t, "", put_clauses(&none, j, choices, booleans), "\n");
+    for (uint64_t k = 0; k < j->n; k++) {
+        if (k == 0 || choices[k].day != choices[k - 1].day) put_words(&t, choices[k].day ? "a " : "e ");
+        put_own(&t, &choices[k]);
+        if (k + 1 == j->n || choices[k].day != choices[k + 1].day) put_words(&t, "0\n");
+    }
+    if (choices[j->n - 1].day) put_number(&t, "e ", booleans, " 0\n");
+    put_clauses(&t, j, choices, booleans);
+    return t.length;
 }
 
 #endif

@@ -1,4 +1,4 @@
-/* Kickballbox for a C host: job files read, looked up, written, played, judged and marked.
+/* Kickballbox for a C host: job files read, looked up, written, played, judged, marked, and written as boolean formulas.
 
    The functions are in libhost.a (`rt staticlib host`), for x86-64 Linux. Each is proved to end, to stay inside the memory that it
    is lent, to reply what is said here and to write nothing else, for every argument; crates/host has the statements.
@@ -30,8 +30,10 @@
    No function keeps anything from call to call or takes memory from the heap, so calls may run side by side on several threads, as
    long as none writes what another is lent.
 
-   Stack: give a call KB_STACK bytes below its caller's frame, whatever the file. The measured need is less: the proof knows of no
-   stack; host/stack.c measures it (52,168 bytes at the deepest, kb_report with 32 choices played one below another). */
+   Stack: give a call KB_STACK bytes below its caller's frame, whatever the file, but kb_judge_formula KB_FORMULA_STACK: 992 KB of its
+   frame are an index of the clauses, and it calls itself once for each boolean, 512 at most. The measured need is less: the proof
+   knows of no stack; host/stack.c measures it (52,168 bytes at the deepest, kb_report with 32 choices played one below another;
+   about 1.1 MB for kb_judge_formula). */
 #ifndef KICKBALLBOX_H
 #define KICKBALLBOX_H
 
@@ -44,19 +46,23 @@ extern "C" {
 
 /* Raised by every change of a function or a struct below. A program asks `kb_interface() == KB_INTERFACE` once, before any other
    call: else header and library are not of one make. */
-#define KB_INTERFACE 1
+#define KB_INTERFACE 2
 
 #define KB_FINISHED 0
 #define KB_REFUSED 1
 #define KB_REFUSED_AT 2
 
 #define KB_STACK 131072
+#define KB_FORMULA_STACK 1572864
 
 /* Bytes of buffer that suffice for every text of kb_report, words of room that suffice for every file, and the longest accepted
    file in bytes. */
 #define KB_TEXT 1024
 #define KB_ROOM 4224
 #define KB_FILE 17994
+
+/* Bytes of buffer that suffice for every text of kb_formula. Computed and not proved; a text that did not fit would be refused with 12. */
+#define KB_FORMULA 4131214
 
 /* A position: how many choices are played, and 32 places, the options played in order of play and zero elsewhere. The fresh
    position is all zero. Any contents may be handed in: what the file does not allow is refused with 23. */
@@ -172,6 +178,15 @@ typedef struct {
     uint16_t leaf[32];
 } kb_searched;
 
+/* Whether the job's formula is true, which it is exactly if the job is won, and how many bytes its text has. */
+typedef struct {
+    uint64_t kind;
+    uint64_t number;
+    uint64_t place;
+    uint64_t won;       /* 1 or 0 */
+    uint64_t length;
+} kb_formula_judgement;
+
 /* KB_INTERFACE of the library. */
 uint64_t kb_interface(void);
 
@@ -252,6 +267,29 @@ kb_ruled kb_look_ahead(const uint8_t *file, size_t length, const uint16_t *list,
    read. */
 kb_values kb_pure(const uint8_t *file, size_t length, const uint16_t *list, size_t masks, uint64_t x);
 kb_values kb_interchangeable(const uint8_t *file, size_t length, const uint16_t *list, size_t masks, uint64_t x);
+
+/* ---- formulas
+
+   The job as a quantified boolean formula in QDIMACS, the text that QBF solvers read: the line `p cnf` with the numbers of booleans and
+   clauses, then the prefix, then the clauses. Single spaces part the numbers, a line feed ends each line, there are no comments.
+
+       booleans  one for each option of a shift's choice, existential; k for a day's choice of d options, universal, k the least number
+                 of at least 1 with 2^k at least d: code c, low bit first, stands for the option at place c mod d, ascending. They are
+                 numbered from 1 in order of play, then by option or bit. If the last choice is the day's, one more, existential,
+                 closes the prefix
+       prefix    a line `e` or `a` for each run of choices of one side
+       clauses   of each shift's choice, that one of its options at least holds; of each clash of a table, one for each pair of
+                 booleans or codes that stand for it; that the closing boolean holds. Tables stand in the file's order; clashes
+                 ascend, and codes within a clash, in both the lower choice's slowest; literals ascend by their boolean
+
+   Both refuse the file; then 12 (the buffer is shorter than the text). The file's rule set counts for nothing here. */
+
+/* Writes the text at the front of the buffer. Replies its length; bytes behind it keep their contents. */
+kb_written kb_formula(const uint8_t *file, size_t length, uint8_t *buffer, size_t size);
+
+/* Writes it and judges the text that stands there, one boolean after another; a branch ends at the first clause that is false. Its time
+   is exponential in the number of booleans by nature, and no rule shortens it: it is for small jobs, a stock QBF solver for large ones. */
+kb_formula_judgement kb_judge_formula(const uint8_t *file, size_t length, uint8_t *buffer, size_t size);
 
 #ifdef __cplusplus
 }

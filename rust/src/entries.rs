@@ -100,6 +100,14 @@ pub struct Searched {
     pub leaf: [u16; 32],
 }
 
+#[repr(C)]
+#[derive(Clone, Copy, Debug, Default, PartialEq, Eq)]
+pub struct FormulaJudgement {
+    pub answer: Answer,
+    pub won: u64,
+    pub length: u64,
+}
+
 #[rustfmt::skip]
 extern "C" {
     pub fn kb_interface() -> u64;
@@ -132,6 +140,9 @@ extern "C" {
     pub fn kb_look_ahead(file: *const u8, length: usize, list: *const u16, masks: usize, x: u64) -> Ruled;
     pub fn kb_pure(file: *const u8, length: usize, list: *const u16, masks: usize, x: u64) -> Values;
     pub fn kb_interchangeable(file: *const u8, length: usize, list: *const u16, masks: usize, x: u64) -> Values;
+
+    pub fn kb_formula(file: *const u8, length: usize, buffer: *mut u8, size: usize) -> Written;
+    pub fn kb_judge_formula(file: *const u8, length: usize, buffer: *mut u8, size: usize) -> FormulaJudgement;
 }
 
 /// A struct that begins with an [`Answer`].
@@ -154,7 +165,7 @@ macro_rules! replies {
         }
     )*};
 }
-replies!(Reading Found Written Opened Judgement Marks Ruled Values Searched);
+replies!(Reading Found Written Opened Judgement Marks Ruled Values Searched FormulaJudgement);
 
 /// The reply, where the call finished. Any kind but 0 is a refusal, and 2 one with a place.
 pub fn finished<T: Reply>(reply: T) -> Result<T, Refusal> {

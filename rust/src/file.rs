@@ -1,7 +1,7 @@
 //! Files, and what is read and played on them.
 
 use crate::entries::{self, finished, flag, variables};
-use crate::{interface::demand_interface, OpenValues, Position, Reading, Refusal, RuleSet, Session, TEXT};
+use crate::{interface::demand_interface, JudgedFormula, OpenValues, Position, Reading, Reason, Refusal, RuleSet, Session, TEXT};
 
 /// The bytes of a file. They may be any bytes: each call reads them first, and where they are no file it refuses them with their
 /// [place](Refusal::place).
@@ -73,6 +73,39 @@ impl<'a> File<'a> {
         let mut buffer = [0; TEXT];
         let length = self.report(&mut buffer)?;
         Ok(String::from_utf8_lossy(&buffer[..length]).into_owned())
+    }
+
+    /// Writes the problem as a quantified boolean formula (QDIMACS) at the front of the buffer and replies the length of that text;
+    /// bytes behind it keep their contents. [`FORMULA`](crate::FORMULA) bytes suffice for every file. Refuses with `Room`, where the
+    /// buffer is shorter than the text.
+    pub fn formula(self, buffer: &mut [u8]) -> Result<usize, Refusal> {
+        let (file, length) = self.lent();
+        // SAFETY: the entry reads the file's bytes and writes the buffer, which is borrowed for this call alone.
+        let reply = unsafe { entries::kb_formula(file, length, buffer.as_mut_ptr(), buffer.len()) };
+        finished(reply).map(|written| written.length as usize)
+    }
+
+    /// The text of [`formula`](File::formula). Refuses the file alone: the buffer grows until the text fits.
+    pub fn formula_text(self) -> Result<String, Refusal> {
+        let mut buffer = vec![0; 1 << 14];
+        loop {
+            match self.formula(&mut buffer) {
+                Err(Refusal { reason: Reason::Room, .. }) => buffer = vec![0; 4 * buffer.len()],
+                reply => return reply.map(|length| String::from_utf8_lossy(&buffer[..length]).into_owned()),
+            }
+        }
+    }
+
+    /// Writes the text of [`formula`](File::formula) into the buffer and judges that text, one boolean after another. Its time is
+    /// exponential in the number of booleans by nature: it is for small problems, a stock QBF solver for large ones. Refuses as
+    /// `formula` does.
+    ///
+    /// It needs [`FORMULA_STACK`](crate::FORMULA_STACK) bytes of stack; a thread that Rust starts has 2 MiB unless told otherwise.
+    pub fn judge_formula(self, buffer: &mut [u8]) -> Result<JudgedFormula, Refusal> {
+        let (file, length) = self.lent();
+        // SAFETY: the entry reads the file's bytes and writes the buffer, which is borrowed for this call alone.
+        let reply = unsafe { entries::kb_judge_formula(file, length, buffer.as_mut_ptr(), buffer.len()) };
+        finished(reply).map(|judgement| JudgedFormula { won: flag(judgement.won), length: judgement.length as usize })
     }
 
     /// The position after a play of this value of the next variable. Refuses with `Misfit`, `Full`, `Option`.

@@ -1,9 +1,9 @@
 //! Safe functions over the proved solver's C entries (`include/kickballbox.h`): files of quantified constraint problems read, looked
-//! up, written, played, judged and marked.
+//! up, written, played, judged, marked, and written as quantified boolean formulas.
 //!
 //! Every function is total: any bytes, any position, any rule set. What is turned away is a [`Refusal`], and a refused call writes
 //! nothing. Every call reads its file first and refuses it by itself, so a [`File`] may be any bytes. Give a call [`STACK`] bytes of
-//! stack; the measured need is less.
+//! stack, but [`File::judge_formula`] [`FORMULA_STACK`]; the measured need is less.
 //!
 //! ```
 //! use kickballbox::{File, Marks, Position, Reason, RuleSet};
@@ -25,6 +25,9 @@
 //! let played = file.play(&fresh, 0)?;
 //! assert_eq!(file.mark(&played, RuleSet::USUAL)?, Marks { winning: 0b10, domain: 0b11 });
 //! assert_eq!(file.play(&played, 2).unwrap_err().reason, Reason::Option);
+//!
+//! // Boolean 1 is the first variable's value; 2 and 3 say that the second has the value 0, and 1.
+//! assert_eq!(file.formula_text()?, "p cnf 3 3\na 1 0\ne 2 3 0\n2 3 0\n1 -2 0\n-1 -3 0\n");
 //! # Ok::<(), kickballbox::Refusal>(())
 //! ```
 #![warn(missing_docs)]
@@ -49,17 +52,21 @@ pub use interface::{check_interface, OtherInterface};
 pub use position::Position;
 pub use problem::Problem;
 pub use refusal::{Reason, Refusal};
-pub use replies::{Marks, OpenValues, Reading, Replayed, Searched};
+pub use replies::{JudgedFormula, Marks, OpenValues, Reading, Replayed, Searched};
 pub use rule_set::RuleSet;
 pub use session::Session;
 
 /// The interface that this wrapper is written for: `KB_INTERFACE` of the header.
-pub const INTERFACE: u64 = 1;
+pub const INTERFACE: u64 = 2;
 /// The stack to give a call, in bytes: `KB_STACK` of the header.
 pub const STACK: usize = 131072;
+/// The stack to give [`File::judge_formula`], in bytes: `KB_FORMULA_STACK` of the header.
+pub const FORMULA_STACK: usize = 1572864;
 /// Bytes of buffer that suffice for every report: `KB_TEXT` of the header.
 pub const TEXT: usize = 1024;
 /// Words of room that suffice for every file: `KB_ROOM` of the header.
 pub const ROOM: usize = 4224;
 /// The longest accepted file in bytes: `KB_FILE` of the header.
 pub const FILE: usize = 17994;
+/// Bytes of buffer that suffice for the text of every formula (computed and not proved): `KB_FORMULA` of the header.
+pub const FORMULA: usize = 4131214;

@@ -52,6 +52,15 @@ pub struct Searched {
     pub leaf: [u16; 32],
 }
 
+/// What judging a problem's formula replies.
+#[derive(Clone, Copy, Debug, PartialEq, Eq)]
+pub struct JudgedFormula {
+    /// Whether the formula is true, which it is exactly if the problem is won.
+    pub won: bool,
+    /// The length of its text in bytes.
+    pub length: usize,
+}
+
 /// What marking and the open values reply at the position that a list of calls reaches.
 #[derive(Clone, Copy, Debug, PartialEq, Eq)]
 pub struct Replayed {

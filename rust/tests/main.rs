@@ -10,6 +10,7 @@ mod tally;
 mod against_plain;
 mod boundaries;
 mod calls;
+mod formulas;
 mod games;
 mod generated;
 mod histories;

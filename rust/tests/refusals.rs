@@ -29,6 +29,8 @@ pub fn by_every_call(bytes: &[u8]) -> Vec<Option<Refusal>> {
         file.look_ahead(&list, 99).err(),
         file.pure(&list, 99).err(),
         file.interchangeable(&list, 99).err(),
+        refusal(lent::with_buffer(9, &[], |buffer| file.formula(buffer))),
+        refusal(lent::with_buffer(9, &[], |buffer| file.judge_formula(buffer))),
     ]);
     refusals
 }

@@ -29,10 +29,9 @@ pub fn g1() -> Vec<u8> {
     job("AE", &[3, 3], &[(0, 1, DIFFER)])
 }
 
-/// Verdict and winning values of variable 0.
-#[test]
-fn verdicts_and_marks() {
-    let jobs = [
+/// Their names, files and verdicts, and the winning values of variable 0.
+pub fn g1_to_g8() -> [(&'static str, Vec<u8>, bool, u16); 8] {
+    [
         ("G1", g1(), true, 3),
         ("G2", job("EA", &[3, 3], &[(0, 1, DIFFER)]), false, 0),
         ("G3", job("AEE", &[3, 1, 1], &[(1, 2, [0, 0])]), false, 0),
@@ -41,7 +40,12 @@ fn verdicts_and_marks() {
         ("G6", job("AAE", &[3, 3, 3], &[(0, 2, ZERO_WITH_BOTH), (1, 2, EQUAL)]), false, 1),
         ("G7", job("E", &[32], &[]), true, 32),
         ("G8", job("EE", &[3, 3], &[(0, 1, FULL)]), true, 3),
-    ];
+    ]
+}
+
+#[test]
+fn verdicts_and_marks() {
+    let jobs = g1_to_g8();
     let mut tally = Tally::new("small jobs: verdicts and marks under all sets");
     for (name, bytes, won, winning) in &jobs {
         let file = File::new(bytes);

@@ -6,7 +6,7 @@ use crate::{all_sets, lent, tally::Tally};
 use kickballbox::{File, Position};
 
 /// The problems of one variable.
-fn single() -> Vec<Problem> {
+pub fn single() -> Vec<Problem> {
     let mut all = vec![];
     for universal in [false, true] {
         for domain in 1..=3 {
@@ -17,7 +17,7 @@ fn single() -> Vec<Problem> {
 }
 
 /// The problems of two variables: without a constraint, and with every one whose rows stay within the domains.
-fn double() -> Vec<Problem> {
+pub fn double() -> Vec<Problem> {
     let mut all = vec![];
     for k in 0..36 {
         let (sides, first, second) = (k % 4, 1 + k / 4 % 3, 1 + k / 12);

@@ -41,6 +41,10 @@ impl Cases {
         u16::from_le_bytes([bytes[0], bytes[1]])
     }
 
+    pub fn long(&mut self) -> u32 {
+        u32::from(self.word()) | u32::from(self.word()) << 16
+    }
+
     pub fn words(&mut self, count: usize) -> Vec<u16> {
         (0..count).map(|_| self.word()).collect()
     }

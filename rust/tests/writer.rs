@@ -23,7 +23,7 @@ struct Case {
 fn cases() -> Vec<Case> {
     stored::all("writer.bin", |c| {
         let (n, m, set) = (c.word().into(), c.word().into(), c.byte());
-        let universal = u64::from(c.word()) | u64::from(c.word()) << 16;
+        let universal = c.long().into();
         let count = c.byte();
         let domains = c.words(count.into());
         let count = c.word();

@@ -1,15 +1,15 @@
 -- Numbers in decimal: the last digit behind those of the tenth, and how many there are.
-use Prim.Native.Nat.{ℕ, zero, suc, _+_, _*_, _/_, _%_, _^_, _≤_, _<_}
+use Prim.Native.Nat.{ℕ, zero, suc, _*_, _/_, _%_, _^_, _≤_, _<_}
 use mathlib.Core.Path.{_≡_, refl, sym, ap, _∙_, subst}
 use mathlib.Core.List.{List, [], _∷_, _++_}
-use lib.ListN.{length, length-append, set}
+use lib.ListN.{length, length-append}
 use borrow.Author.Tests.{lt-ltb, le-ltb}
 use native.Mathlib.Numerals.{unary-clauses}
 use native.Mathlib.Omega.{arith}
 use Rattle.mask.proofs.Logic.{by-lt}
 use Rattle.buffer.specs.Decimal.{digit, spelled, decimal}
-use Rattle.buffer.specs.Put.{Room, Put}
-use Rattle.buffer.proofs.PutLaws.{put-byte, put-behind, room-byte, room-front, room-behind}
+use Rattle.buffer.specs.Put.{Put}
+use Rattle.buffer.proofs.PutLaws.{put-behind}
 
 -- A number below ten is one digit.
 spelled-one : (k x : ℕ) → x < 10 → spelled k x ≡ digit x ∷ []
@@ -61,22 +61,10 @@ decimal-short (suc k) x h =
 -- ---- numbers in a buffer
 
 module _ {l : List ℕ} {at : ℕ} (x : ℕ) where
-  -- One digit: its room, and what is put.
-  pub room-one : x < 10 → Room l at (decimal x) → at < length l
-  room-one h r = room-byte (subst (Room l at) (decimal-one x h) r)
+  -- One digit; the digits of the tenth, then the last.
+  pub number-one : {l' : List ℕ} {b r : ℕ} → x < 10 → b ≡ digit x → Put l at (b ∷ []) r l' → Put l at (decimal x) r l'
+  number-one {l'} {b} {r} h e p = subst (λ (v : List ℕ). Put l at v r l') (ap (λ (d : ℕ). d ∷ []) e ∙ sym (decimal-one x h)) p
 
-  pub number-one : {b : ℕ} → x < 10 → b ≡ digit x → Put l at (decimal x) (at + 1) (set l at b)
-  number-one {b} h e = subst (λ (v : List ℕ). Put l at v (at + 1) (set l at b)) (ap (λ (d : ℕ). d ∷ []) e ∙ sym (decimal-one x h)) (put-byte l at b)
-
-  -- More digits: room for those of the tenth, then for the last, and what is put.
-  pub room-tenth : 10 ≤ x → Room l at (decimal x) → Room l at (decimal (x / 10))
-  room-tenth h r = room-front (digit (x % 10) ∷ []) (subst (Room l at) (decimal-more x h) r)
-
-  pub room-last : {l' : List ℕ} {e : ℕ} → 10 ≤ x → Room l at (decimal x) → Put l at (decimal (x / 10)) e l' → e < length l'
-  room-last h r p = room-byte (room-behind (subst (Room l at) (decimal-more x h) r) p)
-
-  pub number-more : {l' : List ℕ} {e b : ℕ} → 10 ≤ x → b ≡ digit (x % 10) → Put l at (decimal (x / 10)) e l' → Put l at (decimal x) (e + 1) (set l' e b)
-  number-more {l'} {e} {b} h z p =
-      subst (λ (v : List ℕ). Put l at v (e + 1) (set l' e b))
-      (ap (λ (d : ℕ). decimal (x / 10) ++ (d ∷ [])) z ∙ sym (decimal-more x h))
-      (put-behind p (put-byte l' e b))
+  pub number-more : {l' l'' : List ℕ} {e b r : ℕ} → 10 ≤ x → b ≡ digit (x % 10) → Put l' e (b ∷ []) r l'' → Put l at (decimal (x / 10)) e l' → Put l at (decimal x) r l''
+  number-more {l'} {l''} {e} {b} {r} h z q p =
+      subst (λ (v : List ℕ). Put l at v r l'') (ap (λ (d : ℕ). decimal (x / 10) ++ (d ∷ [])) z ∙ sym (decimal-more x h)) (put-behind p q)

@@ -1,7 +1,7 @@
 -- Runs of stores, and lists that stand one behind another.
 use Prim.Native.Nat.{ℕ, zero, suc, _+_, _*_, _≤_, _<_}
-use mathlib.Core.Path.{_≡_, refl, sym, ap, _∙_}
-use mathlib.Core.List.{List, [], _∷_, _++_}
+use mathlib.Core.Path.{_≡_, refl, sym, ap, ap₂, _∙_}
+use mathlib.Core.List.{List, [], _∷_, _++_, append-nil, append-assoc}
 use lib.ListN.{length, set, drop, length-append}
 use lib.Seq.{sets, length-sets, sets-eq}
 use native.Mathlib.Nat.{zero-add, add-zero, add-suc, suc-add, mul-zero, mul-suc}
@@ -57,3 +57,31 @@ pub joined-stored : (g : ℕ → List ℕ) (p : ℕ) (at : ℕ → ℕ) (k : ℕ
 unfolding joined
 joined-stored g p at k r l =
     ap (λ (q : ℕ). stored (stored l p (joined g k)) q (g k)) (sym (length-joined g p at k r)) ∙ stored-more (joined g k) (g k) l p _ refl
+
+-- ---- lists that are joined
+
+-- The same lists.
+pub joined-same : {A : Type 0} (f g : ℕ → List A) (k : ℕ) → ((i : ℕ) → i < k → f i ≡ g i) → joined f k ≡ joined g k
+unfolding joined
+joined-same f g zero h = refl
+joined-same f g (suc k) h = ap₂ (λ xs ys. xs ++ ys) (joined-same f g k (λ i l. h i (omega arith))) (h k (omega arith))
+
+-- Nothing, where each is empty.
+pub joined-none : {A : Type 0} (g : ℕ → List A) (k : ℕ) → ((i : ℕ) → i < k → g i ≡ []) → joined g k ≡ []
+unfolding joined
+joined-none g zero h = refl
+joined-none g (suc k) h = rw (h k (omega arith), joined-none g k (λ i l. h i (omega arith)))
+
+-- The first j, then the others.
+pub joined-split : {A : Type 0} (g : ℕ → List A) (j k : ℕ) → joined g (j + k) ≡ joined g j ++ joined (λ i. g (j + i)) k
+unfolding joined
+joined-split g j zero = rw add-zero (sym (append-nil (joined g j)))
+joined-split g j (suc k) = rw add-suc (ap (λ xs. xs ++ g (j + k)) (joined-split g j k) ∙ append-assoc (joined g j) (joined (λ i. g (j + i)) k) (g (j + k)))
+
+-- The k + 1 from i on: the first, then those from i + 1 on.
+pub joined-from : {A : Type 0} (g : ℕ → List A) (i k : ℕ) → joined (λ t. g (i + t)) (suc k) ≡ g i ++ joined (λ t. g (suc i + t)) k
+unfolding joined
+joined-from g i zero = rw add-zero (sym (append-nil (g i)))
+joined-from g i (suc k) =
+    let e : i + suc k ≡ suc i + k = omega arith in
+    rw e (ap (λ xs. xs ++ g (suc i + k)) (joined-from g i k) ∙ append-assoc (g i) (joined (λ t. g (suc i + t)) k) (g (suc i + k)))

@@ -4,5 +4,5 @@
 pub mod Stored
 -- Numbers in decimal.
 pub mod Decimal
--- A text that fits, and one that was put.
+-- A text that was put.
 pub mod Put

@@ -62,6 +62,9 @@ accept f a =
     (then-ok _ _ (constraints-in f _ _ _ _ (a .constraint)) (en-in f _ (a .size) (a .ends)))))
 
 -- "n, choices, 1 to 32".
+pub variables-some : (f : List ℕ) → verdictOf f ≡ Fine → 1 ≤ nOf f
+variables-some f v = accepted f v .head .counts .some
+
 pub variables-most : (f : List ℕ) → verdictOf f ≡ Fine → nOf f ≤ 32
 variables-most f v = accepted f v .head .counts .most
 

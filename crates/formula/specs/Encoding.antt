@@ -14,6 +14,15 @@ use Rattle.formula.specs.Formula.{Literal, Quantified, Formula, onlyIf}
 unfoldable pub bitsFor : ℕ → ℕ
 bitsFor d = suc (first 4 (λ k. leb d (2 ^ suc k)))
 
+-- How many booleans d values become: of an existential variable, "each option of a shift's choice becomes one existential boolean"; of a
+-- universal one, "a day's choice with d options becomes k universal booleans".
+unfoldable pub widthFor : Bool → ℕ → ℕ
+widthFor universal d = cond universal (bitsFor d) d
+
+-- How many ways stand for d values: 2^k codes, or one boolean each.
+unfoldable pub waysFor : Bool → ℕ → ℕ
+waysFor universal d = cond universal (2 ^ bitsFor d) d
+
 -- The k booleans from v on, under one quantifier.
 unfoldable pub run : Bool → ℕ → ℕ → List Quantified
 run u v zero = []
@@ -29,10 +38,9 @@ module _ (P : Problem) where
   unfoldable pub place : ℕ → ℕ → ℕ
   place i a = count a (domains domain i)
 
-  -- How many booleans variable i becomes: existential, "each option of a shift's choice becomes one existential boolean"; universal,
-  -- "a day's choice with d options becomes k universal booleans". How many booleans come before them.
+  -- How many booleans variable i becomes, and how many come before them.
   unfoldable pub width : ℕ → ℕ
-  width i = cond (universal i) (bitsFor (size i)) (size i)
+  width i = widthFor (universal i) (size i)
 
   unfoldable pub base : ℕ → ℕ
   base zero = 0
@@ -42,10 +50,10 @@ module _ (P : Problem) where
   unfoldable pub booleanOf : ℕ → ℕ → ℕ
   booleanOf i t = suc (base i + t)
 
-  -- Its ways: what stands for its values, 2^k codes or one boolean each. "code c, low bit first, stands for the option at place c mod d
-  -- in ascending order"; boolean c, below d, for the value at place c.
+  -- Its ways. "code c, low bit first, stands for the option at place c mod d in ascending order"; boolean c, below d, for the value at
+  -- place c.
   unfoldable pub ways : ℕ → ℕ
-  ways i = cond (universal i) (2 ^ width i) (size i)
+  ways i = waysFor (universal i) (size i)
 
   unfoldable pub stands : ℕ → ℕ → ℕ → Bool
   stands i c a = domains domain i a && eqb (c % size i) (place i a)
@@ -61,8 +69,8 @@ module _ (P : Problem) where
   unfoldable pub atLeastOne : ℕ → List Literal
   atLeastOne i = joined (λ t. record { positive = true; boolean = booleanOf i t } ∷ []) (size i)
 
-  unfoldable pub optionClauses : List (List Literal)
-  optionClauses = joined (λ i. onlyIf (not (universal i)) (atLeastOne i ∷ [])) n
+  unfoldable pub existentialClauses : List (List Literal)
+  existentialClauses = joined (λ i. onlyIf (not (universal i)) (atLeastOne i ∷ [])) n
 
   -- Value a of i and value b of j clash.
   unfoldable pub clash : ℕ → ℕ → ℕ → ℕ → Bool
@@ -78,8 +86,8 @@ module _ (P : Problem) where
   unfoldable pub constraintClauses : ℕ → ℕ → List (List Literal)
   constraintClauses i j = joined (λ a. joined (λ b. onlyIf (clash i a j b) (clashClauses i a j b)) 16) 16
 
-  unfoldable pub tableClauses : List (List Literal)
-  tableClauses = joined (λ i. joined (λ j. onlyIf (ltb i j && constrained i j) (constraintClauses i j)) n) n
+  unfoldable pub pairClauses : List (List Literal)
+  pairClauses = joined (λ i. joined (λ j. onlyIf (ltb i j && constrained i j) (constraintClauses i j)) n) n
 
   -- "If the last choice is the day's, a fresh existential boolean with a positive clause of its own closes the prefix."
   unfoldable pub closes : Bool
@@ -98,4 +106,4 @@ module _ (P : Problem) where
 
   -- "Clauses stand in the order at-least-one, then tables .., then the closing one".
   unfoldable pub formulaOf : Formula
-  formulaOf = record { prefix = prefixFrom n 0; clauses = (optionClauses ++ tableClauses) ++ closingClauses }
+  formulaOf = record { prefix = prefixFrom n 0; clauses = (existentialClauses ++ pairClauses) ++ closingClauses }

@@ -14,7 +14,7 @@ use Rattle.mask.proofs.Masks.{maskOf-lt, bit-maskOf}
 use Rattle.game.specs.Problem.{Problem}
 use Rattle.game.specs.Lists.{domains}
 use Rattle.buffer.specs.Stored.{joined}
-use Rattle.formula.specs.Formula.{Literal, Assignment, literalHolds, clauseHolds}
+use Rattle.formula.specs.Formula.{Assignment, literalHolds, clauseHolds}
 use Rattle.formula.specs.Encoding.{size, place, width, base, booleanOf, ways, stands, denial}
 use Rattle.formula_theory.proofs.Clauses.{clause-joined, joined-clause, one-literal, literal-one}
 use Rattle.formula_theory.proofs.Blocks.{spread, spread-at}
@@ -34,10 +34,6 @@ literal-else s true v f = go (s v) f
     go true f = refl
     go false f = absurd (f tt)
 literal-else s false v f = fails f
-
-literal-same : (s s' : Assignment) (l : Literal) → s (l .boolean) ≡ s' (l .boolean) → T (literalHolds s l) → T (literalHolds s' l)
-unfolding literalHolds
-literal-same s s' l e t = rw (← e) t
 
 module _ (P : Problem) where
   open Problem P using (n, domain, universal)

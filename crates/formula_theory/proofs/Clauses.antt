@@ -16,7 +16,14 @@ module _ (s : Assignment) where
   have-all [] f = tt
   have-all (c ∷ cs) f = and-in (clauseHolds s c) (allHold s cs) (f .0) (have-all cs (f .1))
 
-  -- Where all hold, those of each part do.
+  -- All of two lists hold exactly if all of each do.
+  pub all-both : (xs ys : List (List Literal)) → T (allHold s xs) → T (allHold s ys) → T (allHold s (xs ++ ys))
+  unfolding allHold
+  all-both [] ys t u = u
+  all-both (c ∷ xs) ys t u =
+      let r = and-out (clauseHolds s c) (allHold s xs) t in
+      and-in (clauseHolds s c) (allHold s (xs ++ ys)) (r .0) (all-both xs ys (r .1) u)
+
   pub all-parts : (xs ys : List (List Literal)) → T (allHold s (xs ++ ys)) → T (allHold s xs) × T (allHold s ys)
   unfolding allHold
   all-parts [] ys t = (tt, t)

@@ -9,7 +9,7 @@ use Rattle.mask.proofs.Logic.{fails, and-out}
 use Rattle.game.specs.Problem.{Problem}
 use Rattle.buffer.specs.Stored.{joined}
 use Rattle.formula.specs.Formula.{Literal, onlyIf}
-use Rattle.formula.specs.Encoding.{ways, stands, denial, atLeastOne, optionClauses, clash, clashClauses, constraintClauses, tableClauses, closes, fresh, closingClauses, formulaOf}
+use Rattle.formula.specs.Encoding.{ways, stands, denial, atLeastOne, existentialClauses, clash, clashClauses, constraintClauses, pairClauses, closes, fresh, closingClauses, formulaOf}
 
 -- Each clause has C.
 unfoldable pub allHave : (List Literal → Type 0) → List (List Literal) → Type 0
@@ -40,18 +40,18 @@ module _ (C : List Literal → Type 0) where
     open Problem P using (n, universal, constrained)
 
     pub record Forms : Type 0 where
-      pub option : (i : ℕ) → i < n → universal i ≡ false → C (atLeastOne P i)
+      pub some : (i : ℕ) → i < n → universal i ≡ false → C (atLeastOne P i)
       pub apart : (i j : ℕ) → i < j → j < n → T (constrained i j) → (a b : ℕ) → a < 16 → b < 16 → T (clash P i a j b)
           → (c e : ℕ) → c < ways P i → T (stands P i c a) → e < ways P j → T (stands P j e b) → C (denial P i c ++ denial P j e)
       pub closing : T (closes P) → C (record { positive = true; boolean = fresh P } ∷ [])
 
     pub all-forms : Forms → allHave C (formulaOf P .clauses)
-    unfolding formulaOf optionClauses tableClauses constraintClauses clashClauses closingClauses
+    unfolding formulaOf existentialClauses pairClauses constraintClauses clashClauses closingClauses
     all-forms y =
-        have-both (optionClauses P ++ tableClauses P) (closingClauses P)
-        (have-both (optionClauses P) (tableClauses P)
+        have-both (existentialClauses P ++ pairClauses P) (closingClauses P)
+        (have-both (existentialClauses P) (pairClauses P)
         (have-joined (λ i. onlyIf (not (universal i)) (atLeastOne P i ∷ [])) n
-        λ i h. have-if (not (universal i)) (atLeastOne P i ∷ []) λ e. have-one (atLeastOne P i) (y .option i h (fails (T-not (universal i) e))))
+        λ i h. have-if (not (universal i)) (atLeastOne P i ∷ []) λ e. have-one (atLeastOne P i) (y .some i h (fails (T-not (universal i) e))))
         (have-joined (λ i. joined (λ j. onlyIf (ltb i j && constrained i j) (constraintClauses P i j)) n) n
         λ i hi. have-joined (λ j. onlyIf (ltb i j && constrained i j) (constraintClauses P i j)) n
         λ j hj. have-if (ltb i j && constrained i j) (constraintClauses P i j)

@@ -20,7 +20,7 @@ use Rattle.game.specs.Winning.{verdict}
 use Rattle.theory.proofs.Moves.{turn-out, turn-in, put-at, put-off, satisfied-out, satisfied-in}
 use Rattle.buffer.specs.Stored.{joined}
 use Rattle.formula.specs.Formula.{Literal, Assignment, assign, onlyIf, literalHolds, clauseHolds, allHold, judged, judgeFormula}
-use Rattle.formula.specs.Encoding.{run, size, place, width, base, booleanOf, ways, stands, denial, atLeastOne, optionClauses, clash, clashClauses, constraintClauses, tableClauses, closes, fresh, closingClauses, prefixFrom, formulaOf}
+use Rattle.formula.specs.Encoding.{run, size, place, width, base, booleanOf, ways, stands, denial, atLeastOne, existentialClauses, clash, clashClauses, constraintClauses, pairClauses, closes, fresh, closingClauses, prefixFrom, formulaOf}
 use Rattle.formula_theory.proofs.Forms.{all-forms}
 use Rattle.formula_theory.proofs.Clauses
 use Rattle.formula_theory.proofs.Blocks
@@ -44,18 +44,18 @@ module _ (P : Problem) where
 
   -- What all clauses say.
   pub record Say (s : Assignment) : Type 0 where
-    pub option : (i : ℕ) → i < n → universal i ≡ false → T (clauseHolds s (atLeastOne P i))
+    pub some : (i : ℕ) → i < n → universal i ≡ false → T (clauseHolds s (atLeastOne P i))
     pub apart : (i j : ℕ) → i < j → j < n → T (constrained i j) → (a b : ℕ) → a < 16 → b < 16 → T (clash P i a j b)
         → (c e : ℕ) → c < ways P i → T (stands P i c a) → e < ways P j → T (stands P j e b) → T (clauseHolds s (denial P i c ++ denial P j e))
     pub closed : T (closes P) → s (fresh P) ≡ true
 
   say-out : (s : Assignment) → T (allHold s clauses) → Say s
-  unfolding clauses formulaOf optionClauses tableClauses constraintClauses clashClauses closingClauses
+  unfolding clauses formulaOf existentialClauses pairClauses constraintClauses clashClauses closingClauses
   say-out s t =
-      let r = Clauses.all-parts s (optionClauses P ++ tableClauses P) (closingClauses P) t in
-      let q = Clauses.all-parts s (optionClauses P) (tableClauses P) (r .0) in
+      let r = Clauses.all-parts s (existentialClauses P ++ pairClauses P) (closingClauses P) t in
+      let q = Clauses.all-parts s (existentialClauses P) (pairClauses P) (r .0) in
       record {
-        option = λ i h e. Clauses.all-one s (atLeastOne P i) (Clauses.all-if s (not (universal i)) (atLeastOne P i ∷ [])
+        some = λ i h e. Clauses.all-one s (atLeastOne P i) (Clauses.all-if s (not (universal i)) (atLeastOne P i ∷ [])
             (Clauses.all-joined s (λ i. onlyIf (not (universal i)) (atLeastOne P i ∷ [])) n (q .0) i h) (rw e tt));
         apart = λ i j l h k a b la lb x c e lc sc le se.
             let t1 = Clauses.all-joined s (λ i. joined (λ j. onlyIf (ltb i j && constrained i j) (constraintClauses P i j)) n) n (q .1) i (omega arith) in
@@ -76,7 +76,7 @@ module _ (P : Problem) where
   unfolding clauses
   say-in s y =
       Clauses.have-all s (formulaOf P .clauses) (all-forms (λ c. T (clauseHolds s c)) P record {
-        option = y .option;
+        some = y .some;
         apart = y .apart;
         closing = λ c. Clauses.literal-one s (record { positive = true; boolean = fresh P }) (positive-holds s (fresh P) (y .closed c));
       })
@@ -96,7 +96,7 @@ module _ (P : Problem) where
   unfolding atLeastOne
   leaf-to p s x f t =
       say-in s record {
-        option = λ i h e. Clauses.joined-clause s (λ t. record { positive = true; boolean = booleanOf P i t }) (size P i) (place P i (p i)) (placed i h)
+        some = λ i h e. Clauses.joined-clause s (λ t. record { positive = true; boolean = booleanOf P i t }) (size P i) (place P i (p i)) (placed i h)
             (positive-holds s (booleanOf P i (place P i (p i))) (x i h .some e));
         apart = λ i j l h k a b la lb y c e lc sc le se. test (clauseHolds s (denial P i c)) (λ u. Clauses.clause-left s (denial P i c) (denial P j e) u)
             λ u. test (clauseHolds s (denial P j e)) (λ w. Clauses.clause-right s (denial P i c) (denial P j e) w)
@@ -202,13 +202,13 @@ module _ (P : Problem) where
       let r = Blocks.leaf clauses (onlyIf b (record { universal = false; boolean = fresh P } ∷ [])) (suc (base P n)) s (Blocks.from-closing b (suc (base P n)) (fresh P) (omega arith)) t in
       leaf-from p (r .0) (λ i h. among-same P s (r .0) i (p i) (λ w l. sym (r .1 w (before n i w h l))) (x i h)) v (r .2)
 
-  -- Some option of an existential variable has its boolean true.
+  -- Some value of an existential variable has its boolean true.
   one-true : (k i : ℕ) (s : Assignment) (y : ℕ → Bool) → k + suc i ≡ n → i < n → universal i ≡ false
       → T (judged clauses (prefixFrom P k (suc i)) (spread s (suc (base P i)) (width P i) y)) → (t : ℕ) × (t < width P i) × (y t ≡ true)
   unfolding atLeastOne booleanOf
   one-true k i s y m h u t =
       let r = Blocks.leaf clauses (prefixFrom P k (suc i)) (suc (base P (suc i))) (spread s (suc (base P i)) (width P i) y) (prefix-from k (suc i) (suc (base P (suc i))) m (omega arith)) t in
-      let q = Clauses.clause-joined (r .0) (λ t. record { positive = true; boolean = booleanOf P i t }) (size P i) (say-out (r .0) (r .2) .option i h u) in
+      let q = Clauses.clause-joined (r .0) (λ t. record { positive = true; boolean = booleanOf P i t }) (size P i) (say-out (r .0) (r .2) .some i h u) in
       let w = width-existential P i u in
       let l : q .0 < width P i = omega (arith, q .1) in
       let e : suc (base P i + q .0) ≡ suc (base P i) + q .0 = omega arith in

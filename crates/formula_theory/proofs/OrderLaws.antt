@@ -25,7 +25,7 @@ ascending-one most v l ls h k t =
     and-in (ltb v (l .boolean) && leb (l .boolean) most) (ascending most (l .boolean) ls)
     (and-in (ltb v (l .boolean)) (leb (l .boolean) most) (lt→ltb v (l .boolean) h) (le→leb (l .boolean) most k)) t
 
-ascending-out : (most v : ℕ) (l : Literal) (ls : List Literal) → T (ascending most v (l ∷ ls)) → (v < l .boolean) × (l .boolean ≤ most) × T (ascending most (l .boolean) ls)
+pub ascending-out : (most v : ℕ) (l : Literal) (ls : List Literal) → T (ascending most v (l ∷ ls)) → (v < l .boolean) × (l .boolean ≤ most) × T (ascending most (l .boolean) ls)
 unfolding ascending
 ascending-out most v l ls t =
     let r = and-out (ltb v (l .boolean) && leb (l .boolean) most) (ascending most (l .boolean) ls) t in
@@ -106,7 +106,7 @@ module _ (P : Problem) where
   forms-ascend : (most : ℕ) → base P n ≤ most → (T (closes P) → base P n < most) → Forms (λ c. T (ascending most 0 c)) P
   unfolding atLeastOne booleanOf fresh ascending
   forms-ascend most all more = record {
-    option = λ i h e.
+    some = λ i h e.
         let w = width-existential P i e in let b = base-before P (suc i) n h in let s = base-suc P i in
         ascending-wider (base P i + size P i) most (base P i) 0 (atLeastOne P i) (omega arith) (omega arith)
         (ascending-each (λ t. record { positive = true; boolean = suc (base P i + t) }) (base P i) (size P i) (λ t. refl));

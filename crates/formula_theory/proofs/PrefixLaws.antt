@@ -1,24 +1,20 @@
 -- How many booleans a problem's formula has.
 use mathlib.Core.Path.{_≡_, refl}
 use mathlib.Core.Bool.{Bool, true, false, cond}
-use mathlib.Core.List.{List, [], _∷_, _++_}
+use mathlib.Core.List.{List, _++_}
 use Prim.Native.Nat.{ℕ, zero, suc, _+_, _-_, _≤_, _<_}
 use native.Mathlib.Omega.{arith}
 use lib.ListN.{length}
 use Rattle.game.specs.Problem.{Problem}
-use Rattle.formula.specs.Formula.{Quantified, onlyIf}
+use Rattle.formula.specs.Formula.{Quantified}
 use Rattle.formula.specs.Encoding.{run, width, base, closes, fresh, prefixFrom, formulaOf}
+use Rattle.formula_theory.proofs.JoinedLaws.{only-one}
 use Rattle.formula_theory.proofs.Widths.{width-some, width-few, base-suc, base-before, base-most, base-all}
 
 length-run : (u : Bool) (v k : ℕ) (qs : List Quantified) → length (run u v k ++ qs) ≡ k + length qs
 unfolding run
 length-run u v zero qs = omega arith
 length-run u v (suc k) qs = let r = length-run u (suc v) k qs in omega arith
-
-length-closing : (b : Bool) (q : Quantified) → length (onlyIf b (q ∷ [])) ≡ cond b 1 0
-unfolding onlyIf
-length-closing true q = refl
-length-closing false q = refl
 
 module _ (P : Problem) where
   open Problem P using (n, universal)
@@ -27,7 +23,7 @@ module _ (P : Problem) where
   unfolding prefixFrom
   prefix-length zero i e =
       let z : i ≡ n = omega arith in
-      rw z (omega (arith, length-closing (closes P) (record { universal = false; boolean = fresh P })))
+      rw z (omega (arith, only-one {A = Quantified} (closes P) (record { universal = false; boolean = fresh P })))
   prefix-length (suc k) i e =
       let r = prefix-length k (suc i) (omega arith) in
       omega (arith, r, length-run (universal i) (suc (base P i)) (width P i) (prefixFrom P k (suc i)), base-suc P i)

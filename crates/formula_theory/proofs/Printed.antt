@@ -1,21 +1,21 @@
 -- The formula of a problem of up to 32 variables is one that a text can hold, so its text read back is it.
 use mathlib.Core.Path.{_≡_, refl}
-use mathlib.Core.Bool.{Bool, true, false, cond, not, _&&_}
+use mathlib.Core.Bool.{Bool, true, false, cond, not}
 use mathlib.Core.List.{List, [], _∷_, _++_}
 use Prim.Native.Nat.{ℕ, zero, suc, _+_, _-_, _≤_, _<_}
 use native.Mathlib.Omega.{arith}
-use lib.Dec.{ltb}
 use lib.ListN.{length, length-append}
 use Rattle.mask.specs.Mask.{bit}
 use Rattle.game.specs.Problem.{Problem}
 use Rattle.buffer.specs.Stored.{joined}
 use Rattle.formula.specs.Formula.{Literal, Quantified, onlyIf}
-use Rattle.formula.specs.Encoding.{run, size, width, base, booleanOf, ways, stands, denial, atLeastOne, optionClauses, clash, clashClauses, constraintClauses, tableClauses, closes, fresh, closingClauses, prefixFrom, formulaOf}
+use Rattle.formula.specs.Encoding.{run, size, width, base, booleanOf, ways, denial, atLeastOne, existentialClauses, pairClauses, closes, fresh, closingClauses, prefixFrom, formulaOf}
 use Rattle.formula.specs.Text.{readText, textOf}
-use Rattle.formula_theory.proofs.JoinedLaws.{joined-most, joined-has, one-each, if-most}
-use Rattle.formula_theory.proofs.Widths.{width-existential, width-some, ways-existential, ways-most, base-before, base-suc, base-all}
+use Rattle.formula_theory.proofs.JoinedLaws.{joined-has, one-each}
+use Rattle.formula_theory.proofs.Widths.{width-existential, width-some, ways-existential, base-before, base-suc, base-all}
 use Rattle.formula_theory.proofs.Forms.{Forms, all-forms}
 use Rattle.formula_theory.proofs.PrefixLaws.{booleans-all, booleans-most, base-some}
+use Rattle.formula_theory.proofs.CountLaws.{clauses-most}
 use Rattle.formula_theory.proofs.ReadBack.{bound, Numbered, fits, allNumbered, Plain, read-back}
 
 -- ---- clauses that fit
@@ -87,7 +87,7 @@ module _ (P : Problem) (some : 0 < P .n) (many : P .n ≤ 32) where
   forms-fit : (most : ℕ) → base P n < most → Forms (λ c. (length c < most) × fits c) P
   unfolding atLeastOne
   forms-fit most enough = record {
-    option = λ i h e.
+    some = λ i h e.
         let w = width-existential P i e in let g : ℕ → Literal = λ t. record { positive = true; boolean = booleanOf P i t } in
         let l = one-each g (size P i) in let b = base-before P (suc i) n h in let s = base-suc P i in
         (omega arith, fits-each g (size P i) (λ t m. numbered i t h (omega arith)));
@@ -97,52 +97,17 @@ module _ (P : Problem) (some : 0 < P .n) (many : P .n ≤ 32) where
     closing = λ c. let a = base-some P some in (omega arith, fits-one (record { positive = true; boolean = fresh P }) fresh-numbered);
   }
 
-  -- How many clauses there are at most: of a clash, of a constraint, of all.
-  clash-many : (i a j b : ℕ) → length (clashClauses P i a j b) ≤ 256
-  unfolding clashClauses
-  clash-many i a j b =
-      let r = joined-most (λ c. onlyIf (stands P i c a) (joined (λ e. onlyIf (stands P j e b) ((denial P i c ++ denial P j e) ∷ [])) (ways P j))) 16 (ways P i) (λ c lc. one c) in
-      let m = ways-most P i in omega arith
-    where
-      one : (c : ℕ) → length (onlyIf (stands P i c a) (joined (λ e. onlyIf (stands P j e b) ((denial P i c ++ denial P j e) ∷ [])) (ways P j))) ≤ 16
-      one c = if-most (stands P i c a) (joined (λ e. onlyIf (stands P j e b) ((denial P i c ++ denial P j e) ∷ [])) (ways P j)) 16
-          (let r = joined-most (λ e. onlyIf (stands P j e b) ((denial P i c ++ denial P j e) ∷ [])) 1 (ways P j) (λ e le. if-most (stands P j e b) ((denial P i c ++ denial P j e) ∷ []) 1 (omega arith)) in
-          let m = ways-most P j in omega arith)
-
-  constraint-many : (i j : ℕ) → length (constraintClauses P i j) ≤ 65536
-  unfolding constraintClauses
-  constraint-many i j =
-      joined-most (λ a. joined (λ b. onlyIf (clash P i a j b) (clashClauses P i a j b)) 16) 4096 16
-      λ a la. joined-most (λ b. onlyIf (clash P i a j b) (clashClauses P i a j b)) 256 16
-      λ b lb. if-most (clash P i a j b) (clashClauses P i a j b) 256 (clash-many i a j b)
-
-  tables-many : length (tableClauses P) ≤ 67108864
-  unfolding tableClauses
-  tables-many =
-      let r = joined-most (λ i. joined (λ j. onlyIf (ltb i j && constrained i j) (constraintClauses P i j)) n) 2097152 n
-      (λ i hi. let q = joined-most (λ j. onlyIf (ltb i j && constrained i j) (constraintClauses P i j)) 65536 n (λ j hj. if-most (ltb i j && constrained i j) (constraintClauses P i j) 65536 (constraint-many i j)) in omega arith) in
-      omega arith
-
-  options-many : length (optionClauses P) ≤ 32
-  unfolding optionClauses
-  options-many =
-      let r = joined-most (λ i. onlyIf (not (universal i)) (atLeastOne P i ∷ [])) 1 n (λ i h. if-most (not (universal i)) (atLeastOne P i ∷ []) 1 (omega arith)) in omega arith
-
-  closing-many : length (closingClauses P) ≤ 1
-  unfolding closingClauses
-  closing-many = if-most (closes P) ((record { positive = true; boolean = fresh P } ∷ []) ∷ []) 1 (omega arith)
-
-  -- And at least one: of the last variable, or the closing one.
-  some-clause : 0 < length ((optionClauses P ++ tableClauses P) ++ closingClauses P)
-  unfolding optionClauses closingClauses closes onlyIf
+  -- There is a clause: of the last variable, or the closing one.
+  some-clause : 0 < length ((existentialClauses P ++ pairClauses P) ++ closingClauses P)
+  unfolding existentialClauses closingClauses closes onlyIf
   some-clause =
-      let a = length-append (optionClauses P ++ tableClauses P) (closingClauses P) in
-      let b = length-append (optionClauses P) (tableClauses P) in
+      let a = length-append (existentialClauses P ++ pairClauses P) (closingClauses P) in
+      let b = length-append (existentialClauses P) (pairClauses P) in
       go (universal (n - 1)) refl a b
     where
-      go : (u : Bool) → universal (n - 1) ≡ u → length ((optionClauses P ++ tableClauses P) ++ closingClauses P) ≡ length (optionClauses P ++ tableClauses P) + length (closingClauses P)
-          → length (optionClauses P ++ tableClauses P) ≡ length (optionClauses P) + length (tableClauses P)
-          → 0 < length ((optionClauses P ++ tableClauses P) ++ closingClauses P)
+      go : (u : Bool) → universal (n - 1) ≡ u → length ((existentialClauses P ++ pairClauses P) ++ closingClauses P) ≡ length (existentialClauses P ++ pairClauses P) + length (closingClauses P)
+          → length (existentialClauses P ++ pairClauses P) ≡ length (existentialClauses P) + length (pairClauses P)
+          → 0 < length ((existentialClauses P ++ pairClauses P) ++ closingClauses P)
       go true e a b = let z : length (closingClauses P) ≡ 1 = rw e in omega arith
       go false e a b =
           let z = joined-has (λ i. onlyIf (not (universal i)) (atLeastOne P i ∷ [])) n (n - 1) (omega arith) (rw e (omega arith)) in omega arith
@@ -152,9 +117,7 @@ module _ (P : Problem) (some : 0 < P .n) (many : P .n ≤ 32) where
   pub formula-plain : Plain (formulaOf P)
   unfolding formulaOf
   formula-plain =
-      let e = booleans-all P in let l = booleans-most P some many in let s = base-some P some in
-      let x = length-append (optionClauses P ++ tableClauses P) (closingClauses P) in let y = length-append (optionClauses P) (tableClauses P) in
-      let m1 = options-many in let m2 = tables-many in let m3 = closing-many in
+      let e = booleans-all P in let l = booleans-most P some many in let s = base-some P some in let m = clauses-most P some many in
       record {
         prefix = prefix-numbered n 0 (omega arith);
         some = omega arith;

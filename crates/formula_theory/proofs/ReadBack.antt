@@ -370,3 +370,12 @@ read-back F y =
     let x = prefix-at t (suc nv) nv p (F .prefix) (y .some) (omega arith) (omega arith) (y .prefix) (at-left t p (Text.prefixText (F .prefix)) (Text.clausesText (F .clauses)) b)
     (clauses-no-letter t (p + length (Text.prefixText (F .prefix))) (suc nv) (F .clauses) (y .first) (y .clauses) c) in
     rw (r .0, r .1, r .2, x .0, x .1, clauses-at t (suc nv) (p + length (Text.prefixText (F .prefix))) (F .clauses) (y .clauses) c)
+
+-- The first number of the text is how many booleans the formula has.
+pub header-told : (F : Formula) → Plain F → Text.numberAt (Text.textOf F) 6 ≡ length (F .prefix)
+unfolding Text.textOf
+header-told F y =
+    let nv = length (F .prefix) in
+    let nc = length (F .clauses) in
+    let t = Text.headerText nv nc ++ (Text.prefixText (F .prefix) ++ Text.clausesText (F .clauses)) in
+    header-at t nv nc (y .count) (y .many) (at-left t 0 (Text.headerText nv nc) (Text.prefixText (F .prefix) ++ Text.clausesText (F .clauses)) (λ r l. ap (λ (i : ℕ). getD t i 0) (zero-add r))) .0

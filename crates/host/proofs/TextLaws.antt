@@ -1,14 +1,14 @@
 -- The first k bytes of a line put into a caller's buffer, or refused with 12.
 use mathlib.Core.Path.{_≡_, refl, ap, _∙_}
 use mathlib.Core.List.{List, [], _∷_, _++_}
-use Prim.Native.Nat.{ℕ, _+_, _≤_, _<_}
+use Prim.Native.Nat.{ℕ, _≤_, _<_}
 use native.Mathlib.Omega.{arith}
 use lib.ListN.{length, take}
 use lib.Seq.{length-take-le, take-append-seam}
 use borrow.Author.Tests.{le-leb, lt-leb}
 use Rattle.refusal.specs.Told.{replied, refused}
 use Rattle.refusal.specs.Chain.{need}
-use Rattle.buffer.specs.Put.{Room, Put}
+use Rattle.buffer.specs.Put.{Put}
 use Rattle.file_writer.specs.Writing.{toldFor, bufferFor}
 use Rattle.host.specs.Text.{fitTest, fitTold, fitLeft}
 
@@ -21,9 +21,6 @@ module _ (k : ℕ) (line old : List ℕ) where
   short w h =
       let s : length old < length text = omega (arith, length-take-le k line w) in
       (rw (lt-leb (length text) (length old) s) refl, rw (lt-leb (length text) (length old) s) refl)
-
-  pub room-for : k ≤ length line → k ≤ length old → Room old 0 text
-  room-for w h = record { fits = omega (arith, length-take-le k line w) }
 
   pub long : (r : ℕ) (new : List ℕ) → Put old 0 text r new → k ≤ length line → k ≤ length old → (replied (r ∷ []) ≡ fitTold text (length old)) × (new ≡ fitLeft text old)
   unfolding fitTold fitLeft fitTest toldFor bufferFor need

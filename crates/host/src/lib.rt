@@ -7,6 +7,7 @@ ghost use Rattle.file_reader.specs.Reading.{headerOf, domainsOf};
 ghost use Rattle.file_lookup.specs.Lookup.{lookUp};
 ghost use Rattle.file_bytes.specs.Bytes.{handed};
 ghost use Rattle.file_writer.specs.Writing.{writeTold, writeBuffer};
+ghost use Rattle.formula_entries.specs.Told.{formulaTold, formulaLeft, judgeFormulaTold};
 ghost use Rattle.rule_entries.specs.Alone.{arcTold, arcLeft, forwardTold, forwardLeft, aheadTold, pureTold, interchangeableTold};
 ghost use Rattle.session.specs.Told.{playTold, playLeft, takeBackTold, takeBackLeft, openTold, masksShown, countsShown};
 ghost use Rattle.search_run.specs.Run.{heldRoom};
@@ -14,7 +15,7 @@ ghost use Rattle.judging.specs.Judging.{judgeTold, judgeLeft};
 ghost use Rattle.judging.specs.Searching.{searchFound};
 ghost use Rattle.marking.specs.Marking.{markTold, markLeft};
 ghost use Rattle.host_replies.specs.Replies.{readFileOf, foundOf, writtenOf, answerOf, movedOf, openedOf, judgementOf, marksOf};
-ghost use Rattle.host_replies.specs.Replies.{searchedOf, ruledOf, valuesOf};
+ghost use Rattle.host_replies.specs.Replies.{searchedOf, ruledOf, valuesOf, formulaJudgementOf};
 ghost use Rattle.host.specs.Unpack.{unpack};
 ghost use Rattle.host.specs.Handed.{setHanded};
 ghost use Rattle.host.specs.Text.{textTold, textLeft};
@@ -27,9 +28,12 @@ mod unpack;
 use file_lookup::look_up;
 use file_reader::read;
 use file_writer::write;
+use formula_entries::judge_formula;
+use formula_entries::write_formula;
 use handed::set_handed;
 use history::replay;
 use host_replies::CallAnswer;
+use host_replies::FormulaJudgement;
 use host_replies::FoundRows;
 use host_replies::Judgement;
 use host_replies::Marks;
@@ -41,7 +45,9 @@ use host_replies::RuledList;
 use host_replies::SearchFindings;
 use host_replies::ValueMask;
 use host_replies::WrittenBytes;
+use host_replies::formula_shown;
 use host_replies::found_shown;
+use host_replies::judged_formula_shown;
 use host_replies::judged_shown;
 use host_replies::marked_shown;
 use host_replies::moved_shown;
@@ -71,9 +77,9 @@ use unpack::unpacked;
 // KB_INTERFACE of the header: raised by every change of a signature or a struct.
 #[no_mangle]
 pub extern "C" fn kb_interface() -> u64
-    ensures { λ r. ⌜ r ≡ 1 ⌝ }
+    ensures { λ r. ⌜ r ≡ 2 ⌝ }
 {
-    1
+    2
 }
 
 // Reads a file.
@@ -286,4 +292,22 @@ pub extern "C" fn kb_interchangeable(f: &[u8], list: &[u16], x: u64) -> ValueMas
     ensures { λ r. ⌜ r ≡ valuesOf (interchangeableTold (now (f .entry)) (now (list .entry)) x) ⌝ }
 {
     values_shown(interchangeable(f, list, x as usize))
+}
+
+// Writes the text of the problem's formula.
+#[no_mangle]
+pub extern "C" fn kb_formula(f: &[u8], buf: &mut [u8]) -> WrittenBytes
+    ensures { λ r. ⌜ r ≡ writtenOf (formulaTold (now (f .entry)) (length (now (buf .entry)))) ⌝ }
+    ensures { λ _. ⌜ now (buf .exit) ≡ formulaLeft (now (f .entry)) (now (buf .entry)) ⌝ }
+{
+    formula_shown(write_formula(f, buf))
+}
+
+// Writes it and judges that text.
+#[no_mangle]
+pub extern "C" fn kb_judge_formula(f: &[u8], buf: &mut [u8]) -> FormulaJudgement
+    ensures { λ r. ⌜ r ≡ formulaJudgementOf (judgeFormulaTold (now (f .entry)) (length (now (buf .entry)))) ⌝ }
+    ensures { λ _. ⌜ now (buf .exit) ≡ formulaLeft (now (f .entry)) (now (buf .entry)) ⌝ }
+{
+    judged_formula_shown(judge_formula(f, buf))
 }

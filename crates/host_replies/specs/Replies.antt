@@ -14,6 +14,7 @@ use Rattle.host_replies.specs.declared.files.WrittenBytes.{WrittenBytes}
 use Rattle.host_replies.specs.declared.calls.CallAnswer.{CallAnswer}
 use Rattle.host_replies.specs.declared.calls.MovedPosition.{MovedPosition}
 use Rattle.host_replies.specs.declared.calls.OpenMasks.{OpenMasks}
+use Rattle.host_replies.specs.declared.formula_judgements.FormulaJudgement.{FormulaJudgement}
 use Rattle.host_replies.specs.declared.games.Judgement.{Judgement}
 use Rattle.host_replies.specs.declared.games.Marks.{Marks}
 use Rattle.host_replies.specs.declared.games.ReplayedCalls.{ReplayedCalls}
@@ -64,6 +65,9 @@ foundOf t = record { kind = kindOf t; number = numberOf t; place = placeOf t; fo
 
 unfoldable pub writtenOf : Told → WrittenBytes
 writtenOf t = record { kind = kindOf t; number = numberOf t; place = placeOf t; length = valueOf t 0 }
+
+unfoldable pub formulaJudgementOf : Told → FormulaJudgement
+formulaJudgementOf t = record { kind = kindOf t; number = numberOf t; place = placeOf t; won = valueOf t 0; length = valueOf t 1 }
 
 unfoldable pub answerOf : Told → CallAnswer
 answerOf t = record { kind = kindOf t; number = numberOf t; place = placeOf t }

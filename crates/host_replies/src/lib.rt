@@ -3,6 +3,8 @@
 // these answers. Every function here is for `host`, whose replies the structs are.
 mod calls;
 mod files;
+mod formula_judgements;
+mod formulas;
 mod games;
 mod rules;
 mod values;
@@ -18,6 +20,9 @@ pub use files::WrittenBytes;
 pub use files::found_shown;
 pub use files::reading_shown;
 pub use files::written_shown;
+pub use formula_judgements::FormulaJudgement;
+pub use formula_judgements::judged_formula_shown;
+pub use formulas::formula_shown;
 pub use games::Judgement;
 pub use games::Marks;
 pub use games::ReplayedCalls;

@@ -9,10 +9,10 @@ use lib.Dec.{T, eqb, ltb, eqb·suc-zero, eqb·suc-suc, eqb→eq}
 use lib.Bits.{bitAnd, and-le-r, bitOr, or-lt}
 use lib.Pow.{pow-pos, pow-mono, pow-lt}
 use borrow.Author.Tests.{ne-eqb, lt-ltb, le-ltb, eq-eqb}
-use Rattle.mask.specs.Range.{some, each, first}
+use Rattle.mask.specs.Range.{some, each, count, first}
 use Rattle.mask.specs.Mask.{bit, rest, above, maskOf}
 use Rattle.mask.proofs.Logic.{same, fails, clash, true-holds, test, by-eq, by-lt, and-in, and-out, or-left, or-right, or-out, holds}
-use Rattle.mask.proofs.Range.{some-out, some-in, each-out, each-in, first-of, first-below, first-is, first-least, first-none, first-agree}
+use Rattle.mask.proofs.Range.{some-out, some-in, each-out, each-in, count-cut, first-of, first-below, first-is, first-least, first-none, first-agree}
 use Rattle.mask.proofs.Bits.{bit-and, bit-diff, bit-zero, bit-suc, bit-none, bit-high, bit-of-zero, bit-single, bit-ext, bit-or}
 use Rattle.mask.proofs.Masks.{bit-not, diff-lt, maskOf-lt, bit-maskOf}
 
@@ -125,6 +125,15 @@ some-below n a m f h =
     (λ t. let r = some-out a (bit m) f t in
     some-in n (bit (bitAnd m (2 ^ a - 1))) f (r .0) (omega (arith, r .1))
     (rw (bit-and m (2 ^ a - 1) (r .0)) (and-in (bit m (r .0)) (bit (2 ^ a - 1) (r .0)) (r .2) (true-holds (bit-ones a (r .0) ∙ lt-ltb (r .0) a (r .1))))) (r .3))
+
+-- How many members of a mask are below a.
+pub count-below : (n a m : ℕ) → a ≤ n → count n (bit (bitAnd m (2 ^ a - 1))) ≡ count a (bit m)
+count-below n a m h =
+    count-cut n a (bit (bitAnd m (2 ^ a - 1))) (bit m) h (λ k l. met k ∙ ap (λ (b : Bool). bit m k && b) (lt-ltb k a l) ∙ and-true (bit m k))
+    (λ k l. met k ∙ ap (λ (b : Bool). bit m k && b) (le-ltb k a l) ∙ and-false (bit m k))
+  where
+    met : (k : ℕ) → bit (bitAnd m (2 ^ a - 1)) k ≡ (bit m k && ltb k a)
+    met k = bit-and m (2 ^ a - 1) k ∙ ap (λ (b : Bool). bit m k && b) (bit-ones a k)
 
 -- What is above k of a mask: those of its members, within its places.
 pub bit-above : (m k j : ℕ) → bit (above m k) j ≡ (bit m j && ltb k j)

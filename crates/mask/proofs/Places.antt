@@ -1,7 +1,7 @@
 -- Numbers that pass a test, by how many pass below them: their places in ascending order.
 use mathlib.Core.Path.{_≡_, sym}
 use mathlib.Core.Bool.{Bool, true, false}
-use Prim.Native.Nat.{ℕ, zero, suc, _<_}
+use Prim.Native.Nat.{ℕ, zero, suc, _-_, _≤_, _<_}
 use native.Mathlib.Omega.{arith}
 use lib.Dec.{T}
 use Rattle.mask.specs.Range.{count}
@@ -37,3 +37,20 @@ pub place-same : (p : ℕ → Bool) (a b : ℕ) → T (p a) → T (p b) → coun
 place-same p a b t u e =
     by-lt a b (λ h. absurd (omega (arith, place-below b p a h t)))
     λ h. by-lt b a (λ g. absurd (omega (arith, place-below a p b g u))) (λ g. omega arith)
+
+-- No more than one passes where any two that do are the same.
+pub count-one : (v : ℕ) (p : ℕ → Bool) → ((a b : ℕ) → T (p a) → T (p b) → a ≡ b) → count v p ≤ 1
+unfolding count
+count-one zero p u = omega arith
+count-one (suc v) p u =
+    test (p v)
+    (λ t. by-lt 0 (count v p) (λ l. let r = at-place v p 0 l in let e = u (r .0) v (r .2) t in absurd (omega (arith, r .1))) (λ l. omega (arith, count-in v p t)))
+    (λ t. omega (arith, count-one v p u, count-out v p t))
+
+-- Of those above i, which are fewer than v - i.
+pub count-above : (v i : ℕ) (p : ℕ → Bool) → ((a : ℕ) → T (p a) → i < a) → count v p ≤ v - suc i
+unfolding count
+count-above zero i p u = omega arith
+count-above (suc v) i p u =
+    let r = count-above v i p u in
+    test (p v) (λ t. let l = u v t in omega (arith, count-in v p t)) (λ t. omega (arith, count-out v p t))

@@ -108,6 +108,19 @@ count-bound (suc n) p = let r = count-bound n p in let q = one (p n) in omega ar
     one true = omega arith
     one false = omega arith
 
+-- Tests that agree below v pass as often; so does one that agrees below a and fails from a on.
+pub count-same : (v : ℕ) (f g : ℕ → Bool) → ((a : ℕ) → a < v → f a ≡ g a) → count v f ≡ count v g
+unfolding count
+count-same zero f g e = refl
+count-same (suc v) f g e = rw (e v (omega arith), count-same v f g (λ a l. e a (omega arith)))
+
+pub count-cut : (v a : ℕ) (f g : ℕ → Bool) → a ≤ v → ((k : ℕ) → k < a → f k ≡ g k) → ((k : ℕ) → a ≤ k → f k ≡ false) → count v f ≡ count a g
+unfolding count
+count-cut zero a f g h e z = let x : a ≡ 0 = omega arith in rw x
+count-cut (suc v) a f g h e z =
+    by-eq a (suc v) (λ x. rw x (count-same (suc v) f g (λ k l. e k (omega arith))))
+    (λ x. rw (z v (omega arith)) (let r = count-cut v a f g (omega arith) e z in omega arith))
+
 -- `first` passes where any does, and none before it does.
 pub first-has : (n : ℕ) (p : ℕ → Bool) (k : ℕ) → k < n → p k ≡ true → p (first n p) ≡ true
 unfolding first

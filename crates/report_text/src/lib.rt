@@ -1,5 +1,5 @@
 // What the judging program prints, formed in a buffer (document 01, "G1 in hex"). It rests on `buffer`. `render_reply` and
-// `render_refusal` are for `reporting` and require that the text fits; proofs/TextLaws.antt says how long it is at most.
+// `render_refusal` are for `reporting` and alone require that the text fits; proofs/TextLaws.antt says how long it is at most.
 ghost use mathlib.Core.Path.{_≡_};
 ghost use mathlib.Core.List.{_++_};
 ghost use Prim.Native.Nat.{_≤_};

@@ -1,6 +1,7 @@
-// The lines of the text, put at a place of the buffer. Each function replies the place behind its lines.
+// The lines of the text, put at a place of the buffer. Each function replies the place behind its lines; what lies
+// behind the buffer's end is left out.
 ghost use Prim.Native.Nat.{_<_};
-ghost use Rattle.buffer.specs.Put.{Room, Put};
+ghost use Rattle.buffer.specs.Put.{Put};
 ghost use Rattle.report_text.specs.Text.{numberLine, verdictText, sideOf, markOf};
 ghost use Rattle.report_text.specs.Text.{answerLine, nextLine, optionLine, optionText, optionsText, headText};
 use buffer::put;
@@ -8,7 +9,6 @@ use buffer::put_number;
 use mask::contains;
 
 fn put_line(out: &mut [u8], at: usize, label: &[u8], x: usize) -> usize
-    requires { ⌜ Room (now out) at (numberLine (now label) x) ⌝ }
     ensures { λ r. ⌜ Put (now (out .entry)) at (numberLine (now (label .entry)) x) r (now (out .exit)) ⌝ }
 {
     let a = put(out, at, label);
@@ -17,7 +17,6 @@ fn put_line(out: &mut [u8], at: usize, label: &[u8], x: usize) -> usize
 }
 
 pub fn put_head(out: &mut [u8], n: usize, m: usize, set: usize) -> usize
-    requires { ⌜ Room (now out) 0 (headText n m set) ⌝ }
     ensures { λ r. ⌜ Put (now (out .entry)) 0 (headText n m set) r (now (out .exit)) ⌝ }
 {
     let a = put_line(out, 0, b"choices ", n);
@@ -26,7 +25,6 @@ pub fn put_head(out: &mut [u8], n: usize, m: usize, set: usize) -> usize
 }
 
 fn put_verdict(out: &mut [u8], at: usize, won: bool) -> usize
-    requires { ⌜ Room (now out) at (verdictText won) ⌝ }
     ensures { λ r. ⌜ Put (now (out .entry)) at (verdictText won) r (now (out .exit)) ⌝ }
 {
     if won {
@@ -37,7 +35,6 @@ fn put_verdict(out: &mut [u8], at: usize, won: bool) -> usize
 }
 
 fn put_side(out: &mut [u8], at: usize, universal: bool) -> usize
-    requires { ⌜ Room (now out) at (sideOf universal) ⌝ }
     ensures { λ r. ⌜ Put (now (out .entry)) at (sideOf universal) r (now (out .exit)) ⌝ }
 {
     if universal {
@@ -48,7 +45,6 @@ fn put_side(out: &mut [u8], at: usize, universal: bool) -> usize
 }
 
 fn put_mark(out: &mut [u8], at: usize, winning: bool) -> usize
-    requires { ⌜ Room (now out) at (markOf winning) ⌝ }
     ensures { λ r. ⌜ Put (now (out .entry)) at (markOf winning) r (now (out .exit)) ⌝ }
 {
     if winning {
@@ -59,7 +55,6 @@ fn put_mark(out: &mut [u8], at: usize, winning: bool) -> usize
 }
 
 pub fn put_answer(out: &mut [u8], at: usize, won: bool) -> usize
-    requires { ⌜ Room (now out) at (answerLine won) ⌝ }
     ensures { λ r. ⌜ Put (now (out .entry)) at (answerLine won) r (now (out .exit)) ⌝ }
 {
     let a = put(out, at, b"answer ");
@@ -68,7 +63,6 @@ pub fn put_answer(out: &mut [u8], at: usize, won: bool) -> usize
 }
 
 pub fn put_next(out: &mut [u8], at: usize, next: usize, universal: bool) -> usize
-    requires { ⌜ Room (now out) at (nextLine next universal) ⌝ }
     ensures { λ r. ⌜ Put (now (out .entry)) at (nextLine next universal) r (now (out .exit)) ⌝ }
 {
     let a = put(out, at, b"next ");
@@ -79,7 +73,6 @@ pub fn put_next(out: &mut [u8], at: usize, next: usize, universal: bool) -> usiz
 }
 
 fn put_option_line(out: &mut [u8], at: usize, a: usize, winning: bool) -> usize
-    requires { ⌜ Room (now out) at (optionLine a winning) ⌝ }
     ensures { λ r. ⌜ Put (now (out .entry)) at (optionLine a winning) r (now (out .exit)) ⌝ }
 {
     let p = put(out, at, b"option ");
@@ -91,7 +84,7 @@ fn put_option_line(out: &mut [u8], at: usize, a: usize, winning: bool) -> usize
 
 // The line of value a, where the domain holds it.
 fn put_option(out: &mut [u8], at: usize, domain: u16, winning: u16, a: usize) -> usize
-    requires { ⌜ Room (now out) at (optionText domain winning a) × (a < 16) ⌝ }
+    requires { ⌜ a < 16 ⌝ }
     ensures { λ r. ⌜ Put (now (out .entry)) at (optionText domain winning a) r (now (out .exit)) ⌝ }
 {
     if contains(domain, a) {
@@ -102,7 +95,6 @@ fn put_option(out: &mut [u8], at: usize, domain: u16, winning: u16, a: usize) ->
 }
 
 pub fn put_options(out: &mut [u8], at: usize, domain: u16, winning: u16) -> usize
-    requires { ⌜ Room (now out) at (optionsText domain winning 16) ⌝ }
     ensures { λ r. ⌜ Put (now (out .entry)) at (optionsText domain winning 16) r (now (out .exit)) ⌝ }
 {
     let mut e = at;

@@ -11,7 +11,7 @@ use lib.Count.{ones}
 use Rattle.mask.specs.Range.{some, each, count}
 use Rattle.mask.specs.Mask.{bit, maskOf}
 use Rattle.mask.proofs.Logic.{same, holds, clash, test, by-eq, and-in, and-out, and-keep}
-use Rattle.mask.proofs.Range.{each-out, each-in, some-out, some-in}
+use Rattle.mask.proofs.Range.{each-out, each-in, some-out, some-in, count-same}
 use Rattle.mask.proofs.Bits.{bit-of-zero, bit-ext, ones-count}
 use Rattle.mask.proofs.Masks.{maskOf-lt, bit-maskOf}
 use Rattle.game.specs.Problem.{Problem}
@@ -51,12 +51,6 @@ without-same [] j h = refl
 without-same (a ∷ []) j h = absurd (omega arith)
 without-same (a ∷ (b ∷ p)) zero h = refl
 without-same (a ∷ (b ∷ p)) (suc j) h = without-same (b ∷ p) j (omega arith)
-
--- Tests that agree below v pass as often.
-count-same : (v : ℕ) (f g : ℕ → Bool) → ((a : ℕ) → a < v → f a ≡ g a) → count v f ≡ count v g
-unfolding count
-count-same zero f g e = refl
-count-same (suc v) f g e = rw (e v (omega arith), count-same v f g (λ a l. e a (omega arith)))
 
 module _ (P : Problem) where
   open Problem P using (n, domain, universal, compatible)

@@ -55,7 +55,7 @@ macro_rules! layout {
 #[test]
 fn structs_as_declared() {
     let header = structs(&code());
-    let ours: [(&str, Layout); 12] = [
+    let ours: [(&str, Layout); 14] = [
         ("kb_position", layout!(Position: plays, values)),
         ("kb_reading", layout!(Reading: answer.kind, answer.number, answer.place, n, m, universal, given, rules, domains)),
         ("kb_found", layout!(Found: answer.kind, answer.number, answer.place, found, rows)),
@@ -68,12 +68,13 @@ fn structs_as_declared() {
         ("kb_replayed", layout!(Replayed: marks, opened)),
         ("kb_ruled", layout!(Ruled: answer.kind, answer.number, answer.place, lost)),
         ("kb_values", layout!(Values: answer.kind, answer.number, answer.place, values)),
+        ("kb_searched", layout!(Searched: answer.kind, answer.number, answer.place, won, loss, conflict, list, leaf)),
+        ("kb_formula_judgement", layout!(FormulaJudgement: answer.kind, answer.number, answer.place, won, length)),
     ];
-    let searched = layout!(Searched: answer.kind, answer.number, answer.place, won, loss, conflict, list, leaf);
-    for (name, layout) in ours.iter().chain([&("kb_searched", searched)]) {
+    for (name, layout) in &ours {
         assert_eq!(header[*name], *layout, "{name}");
     }
-    assert_eq!(header.len(), ours.len() + 1);
+    assert_eq!(header.len(), ours.len());
 }
 
 /// Each function as `result name(argument types)`, in Rust's words.
@@ -105,7 +106,7 @@ fn in_rust(of: &str) -> String {
         "kb_session" => "Position".into(),
         _ => {
             let name = of.strip_prefix("kb_").unwrap_or_else(|| panic!("the type {of}"));
-            name[..1].to_uppercase() + &name[1..]
+            name.split('_').map(|word| word[..1].to_uppercase() + &word[1..]).collect()
         }
     }
 }
@@ -127,7 +128,7 @@ fn our_functions() -> Vec<String> {
 #[test]
 fn functions_as_declared() {
     let header = header_functions(&code());
-    assert_eq!(header.len(), 21);
+    assert_eq!(header.len(), 23);
     assert_eq!(header, our_functions());
 }
 
@@ -139,8 +140,10 @@ fn constants_as_declared() {
     };
     assert_eq!(constant("KB_INTERFACE"), crate::INTERFACE);
     assert_eq!(constant("KB_STACK"), crate::STACK as u64);
+    assert_eq!(constant("KB_FORMULA_STACK"), crate::FORMULA_STACK as u64);
     assert_eq!(constant("KB_TEXT"), crate::TEXT as u64);
     assert_eq!(constant("KB_ROOM"), crate::ROOM as u64);
     assert_eq!(constant("KB_FILE"), crate::FILE as u64);
+    assert_eq!(constant("KB_FORMULA"), crate::FORMULA as u64);
     assert_eq!([constant("KB_FINISHED"), constant("KB_REFUSED"), constant("KB_REFUSED_AT")], [0, 1, 2]);
 }

@@ -18,9 +18,10 @@ fn empty_file_with_any_pointer() {
     let answer = refused(2, 1);
     for address in [0usize, 1, 2, 4095, usize::MAX] {
         let file = address as *const u8;
-        let (mut list, mut room) = ([0u16; 3], [9u16; 3]);
+        let (mut list, mut room, mut buffer) = ([0u16; 3], [9u16; 3], [7u8; 3]);
         let words = list.as_mut_ptr();
         let at = room.as_mut_ptr();
+        let bytes = buffer.as_mut_ptr();
         let mut session = MISFIT;
         // SAFETY: a length of 0 comes with the file's pointer; all else is lent as it is long.
         unsafe {
@@ -44,8 +45,10 @@ fn empty_file_with_any_pointer() {
             assert_eq!(kb_look_ahead(file, 0, words, 3, 9), Ruled { answer, lost: 0 });
             assert_eq!(kb_pure(file, 0, words, 3, 9), Values { answer, values: 0 });
             assert_eq!(kb_interchangeable(file, 0, words, 3, 9), Values { answer, values: 0 });
+            assert_eq!(kb_formula(file, 0, bytes, 3), Written { answer, length: 0 });
+            assert_eq!(kb_judge_formula(file, 0, bytes, 3), FormulaJudgement { answer, ..Default::default() });
         }
-        assert_eq!((list, room), ([0; 3], [9; 3]));
+        assert_eq!((list, room, buffer), ([0; 3], [9; 3], [7; 3]));
     }
 }
 
@@ -83,6 +86,9 @@ fn refused_calls_with_any_pointer() {
             assert_eq!(kb_pure(file, length, words, 0, 0), Values { answer: refused(1, 13), values: 0 });
             assert_eq!(kb_interchangeable(file, length, words, 0, 0), Values { answer: refused(1, 13), values: 0 });
             assert_eq!(kb_report(file, length, bytes, 0), Written { answer: refused(1, 12), length: 0 });
+            assert_eq!(kb_formula(file, length, bytes, 0), Written { answer: refused(1, 12), length: 0 });
+            let judged = FormulaJudgement { answer: refused(1, 12), ..Default::default() };
+            assert_eq!(kb_judge_formula(file, length, bytes, 0), judged);
             let written = |n, domains, count| kb_write(bytes, 0, n, 0, 0, 0, 0, domains, count, null(), 0);
             assert_eq!(written(0, null(), 0), Written { answer: refused(1, 3), length: 0 });
             assert_eq!(written(1, null(), 0), Written { answer: refused(1, 13), length: 0 });

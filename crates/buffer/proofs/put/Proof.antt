@@ -1,33 +1,26 @@
 use Prim.Native.Nat.{_≤_, _<_, _-_}
 use borrow.Author.Needs.{needs}
 use lib.ListN.{length, take}
-use mathlib.Core.Path.{_≡_, refl, ap, _∙_}
 use native.Mathlib.Numerals.{add-one}
-use native.Mathlib.Omega.{arith}
-use Rattle.buffer.specs.Stored.{stored}
-use Rattle.buffer.proofs.StoredLaws.{length-stored}
-use Rattle.buffer.proofs.PutLaws.{put-one, put-whole}
+use Rattle.buffer.specs.Put.{Put}
+use Rattle.buffer.proofs.PutLaws.{put-none, put-kept, put-one, put-whole}
 use Rattle.buffer.proofs.put.Statement.{statement}
 use Rattle.buffer.proofs.put.Tie as tie
 
 abbrev Inv-loop : tie.InvT-loop
-Inv-loop out₀ at text k₀ out k = (k ≤ length text) × (out ≡ stored out₀ at (take k text))
+Inv-loop out₀ at text e₀ k₀ out e k = (k ≤ length text) × Put out₀ at (take k text) e out
 
 abbrev μ-loop : tie.MeasureT-loop
-μ-loop out₀ at text k₀ out k = length text - k
+μ-loop out₀ at text e₀ k₀ out e k = length text - k
 
 loop-holds : tie.Need-loop-holds Inv-loop μ-loop
-unfolding stored
-loop-holds c = (search needs, refl)
+loop-holds c = (search needs, put-none _ _ (search needs) (search needs))
 
-shared-slice-read-out : tie.Need-shared-slice-read-out Inv-loop μ-loop
-shared-slice-read-out c = search needs
+shared-slice-read-put-byte : tie.Need-shared-slice-read-put-byte Inv-loop μ-loop
+shared-slice-read-put-byte c = search needs
 
-add-out : tie.Need-add-out Inv-loop μ-loop
-add-out c = search needs
-
-slice-write-out : tie.Need-slice-write-out Inv-loop μ-loop
-slice-write-out c = rw (c .before .before .loop .inv .1, length-stored) (search needs)
+put-byte-requires : tie.Need-put-byte-requires Inv-loop μ-loop
+put-byte-requires c κs = search needs
 
 add-k : tie.Need-add-k Inv-loop μ-loop
 add-k c = search needs
@@ -37,19 +30,15 @@ loop-less c = search needs
 
 loop-again : tie.Need-loop-again Inv-loop μ-loop
 loop-again c =
-    let h : c .before .before .loop .k < length (c .before .before .before .args .text .now) = search needs in
-    (search needs, rw (c .before .before .loop .inv .1, add-one) (put-one _ _ _ _ h))
-
-add-result : tie.Need-add-result Inv-loop μ-loop
-add-result c = search needs
+    let b = c .before .before .before .before .before .before in
+    let h : b .loop .k < length (b .before .before .before .args .text .now) = search needs in
+    (search needs, rw add-one (put-one _ _ h (b .loop .inv .1) (c .before .before .put-byte .ensures)))
 
 same-length : tie.Need-same-length Inv-loop μ-loop
-same-length c = ap length (c .before .loop .inv .1) ∙ length-stored _ _ _
+same-length c = put-kept (c .before .loop .inv .1)
 
 returns : tie.Need-returns Inv-loop μ-loop
-returns c =
-    let h : c .before .loop .k ≡ length (c .before .before .args .text .now) = omega arith in
-    put-whole _ _ _ _ h (c .before .loop .inv .1)
+returns c = put-whole _ _ (c .loop-test .left) (c .before .loop .inv .1)
 
 pub put-spec : {M : Type 1} → statement M
 put-spec =
@@ -58,12 +47,10 @@ put-spec =
     Inv-loop
     μ-loop
     loop-holds
-    shared-slice-read-out
-    add-out
-    slice-write-out
+    shared-slice-read-put-byte
+    put-byte-requires
     add-k
     loop-less
     loop-again
-    add-result
     same-length
     returns)

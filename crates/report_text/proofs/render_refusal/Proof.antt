@@ -1,5 +1,5 @@
 use borrow.Author.Needs.{needs}
-use Rattle.buffer.proofs.PutLaws.{put-more, put-last, put-start, room-start, room-first, room-next}
+use Rattle.buffer.proofs.PutLaws.{put-more, put-last, put-start}
 use Rattle.report_text.specs.Text.{refusedText}
 use Rattle.report_text.proofs.render_refusal.Statement.{statement}
 use Rattle.report_text.proofs.render_refusal.Tie as tie
@@ -8,30 +8,25 @@ slice-aggregate-put : tie.Need-slice-aggregate-put
 slice-aggregate-put c = search needs
 
 put-requires : tie.Need-put-requires
-unfolding refusedText
-put-requires c κs = room-first _ (room-start (c .before .before .before .pre))
+put-requires c κs = search needs
 
 put-number-requires : tie.Need-put-number-requires
-unfolding refusedText
-put-number-requires c κs = room-first _ (room-next _ (room-start (c .before .before .before .before .before .before .before .pre)) (c .before .before .before .put .ensures))
+put-number-requires c κs = search needs
 
 slice-aggregate-put-2 : tie.Need-slice-aggregate-put-2
 slice-aggregate-put-2 c = search needs
 
 put-requires-2 : tie.Need-put-requires-2
-unfolding refusedText
-put-requires-2 c κs = room-first _ (room-next _ (room-next _ (room-start (c .before .before .before .before .before .before .before .before .before .before .before .before .pre)) (c .before .before .before .before .before .before .before .before .put .ensures)) (c .before .before .before .before .put-number .ensures))
+put-requires-2 c κs = search needs
 
 put-number-requires-2 : tie.Need-put-number-requires-2
-unfolding refusedText
-put-number-requires-2 c κs = room-first _ (room-next _ (room-next _ (room-next _ (room-start (c .before .before .before .before .before .before .before .before .before .before .before .before .before .before .before .before .pre)) (c .before .before .before .before .before .before .before .before .before .before .before .before .put .ensures)) (c .before .before .before .before .before .before .before .before .put-number .ensures)) (c .before .before .before .put2 .ensures))
+put-number-requires-2 c κs = search needs
 
 slice-aggregate-put-3 : tie.Need-slice-aggregate-put-3
 slice-aggregate-put-3 c = search needs
 
 put-requires-3 : tie.Need-put-requires-3
-unfolding refusedText
-put-requires-3 c κs = room-first _ (room-next _ (room-next _ (room-next _ (room-next _ (room-start (c .before .before .before .before .before .before .before .before .before .before .before .before .before .before .before .before .before .before .before .before .before .pre)) (c .before .before .before .before .before .before .before .before .before .before .before .before .before .before .before .before .before .put .ensures)) (c .before .before .before .before .before .before .before .before .before .before .before .before .before .put-number .ensures)) (c .before .before .before .before .before .before .before .before .put2 .ensures)) (c .before .before .before .before .put-number2 .ensures))
+put-requires-3 c κs = search needs
 
 same-length : tie.Need-same-length
 same-length c = search needs

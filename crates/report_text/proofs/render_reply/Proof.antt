@@ -1,24 +1,20 @@
 use borrow.Author.Needs.{needs}
-use Rattle.buffer.proofs.PutLaws.{put-more, put-last, put-start, room-start, room-first, room-next}
+use Rattle.buffer.proofs.PutLaws.{put-more, put-last, put-start}
 use Rattle.report_text.specs.Text.{replyText}
 use Rattle.report_text.proofs.render_reply.Statement.{statement}
 use Rattle.report_text.proofs.render_reply.Tie as tie
 
 put-head-requires : tie.Need-put-head-requires
-unfolding replyText
-put-head-requires c κs = room-first _ (room-start (c .before .before .pre))
+put-head-requires c κs = search needs
 
 put-answer-requires : tie.Need-put-answer-requires
-unfolding replyText
-put-answer-requires c κs = room-first _ (room-next _ (room-start (c .before .before .before .before .before .before .pre)) (c .before .before .before .put-head .ensures))
+put-answer-requires c κs = search needs
 
 put-next-requires : tie.Need-put-next-requires
-unfolding replyText
-put-next-requires c κs = room-first _ (room-next _ (room-next _ (room-start (c .before .before .before .before .before .before .before .before .before .before .pre)) (c .before .before .before .before .before .before .before .put-head .ensures)) (c .before .before .before .put-answer .ensures))
+put-next-requires c κs = search needs
 
 put-options-requires : tie.Need-put-options-requires
-unfolding replyText
-put-options-requires c κs = room-first _ (room-next _ (room-next _ (room-next _ (room-start (c .before .before .before .before .before .before .before .before .before .before .before .before .before .before .pre)) (c .before .before .before .before .before .before .before .before .before .before .before .put-head .ensures)) (c .before .before .before .before .before .before .before .put-answer .ensures)) (c .before .before .before .put-next .ensures))
+put-options-requires c κs = search needs
 
 same-length : tie.Need-same-length
 same-length c = search needs

@@ -2,7 +2,7 @@ use lib.Seq.{length-take-le}
 use mathlib.Core.Path.{sym}
 use native.Mathlib.Omega.{arith}
 use Rattle.file_writer.specs.Writing.{told}
-use Rattle.host.proofs.TextLaws.{short, room-for, long}
+use Rattle.host.proofs.TextLaws.{short, long}
 use denote.Ref.{now}
 use borrow.Author.Needs.{needs}
 use Rattle.host.proofs.text.fitted.Statement.{statement}
@@ -16,7 +16,7 @@ slice-aggregate-put : tie.Need-slice-aggregate-put
 slice-aggregate-put c = sym (length-take-le _ _ (omega arith))
 
 put-requires : tie.Need-put-requires
-put-requires c κs = let a = c .before .before .before .before .before .args in room-for (a .k) (now (a .line)) _ (omega arith) (omega arith)
+put-requires c κs = search needs
 
 same-length : tie.Need-same-length
 same-length c = search needs

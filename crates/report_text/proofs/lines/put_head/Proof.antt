@@ -1,5 +1,5 @@
 use borrow.Author.Needs.{needs}
-use Rattle.buffer.proofs.PutLaws.{put-more, put-last, room-first, room-next}
+use Rattle.buffer.proofs.PutLaws.{put-more, put-last}
 use Rattle.report_text.specs.Text.{headText}
 use Rattle.report_text.proofs.lines.put_head.Statement.{statement}
 use Rattle.report_text.proofs.lines.put_head.Tie as tie
@@ -8,22 +8,19 @@ slice-aggregate-put-line : tie.Need-slice-aggregate-put-line
 slice-aggregate-put-line c = search needs
 
 put-line-requires : tie.Need-put-line-requires
-unfolding headText
-put-line-requires c κs = room-first _ (c .before .before .before .pre)
+put-line-requires c κs = search needs
 
 slice-aggregate-put-line-2 : tie.Need-slice-aggregate-put-line-2
 slice-aggregate-put-line-2 c = search needs
 
 put-line-requires-2 : tie.Need-put-line-requires-2
-unfolding headText
-put-line-requires-2 c κs = room-first _ (room-next _ (c .before .before .before .before .before .before .before .before .pre) (c .before .before .before .before .put-line .ensures))
+put-line-requires-2 c κs = search needs
 
 slice-aggregate-put-line-3 : tie.Need-slice-aggregate-put-line-3
 slice-aggregate-put-line-3 c = search needs
 
 put-line-requires-3 : tie.Need-put-line-requires-3
-unfolding headText
-put-line-requires-3 c κs = room-first _ (room-next _ (room-next _ (c .before .before .before .before .before .before .before .before .before .before .before .before .before .pre) (c .before .before .before .before .before .before .before .before .before .put-line .ensures)) (c .before .before .before .before .put-line2 .ensures))
+put-line-requires-3 c κs = search needs
 
 same-length : tie.Need-same-length
 same-length c = search needs

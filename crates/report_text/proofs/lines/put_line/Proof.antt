@@ -1,23 +1,20 @@
 use borrow.Author.Needs.{needs}
-use Rattle.buffer.proofs.PutLaws.{put-more, put-last, room-first, room-next}
+use Rattle.buffer.proofs.PutLaws.{put-more, put-last}
 use Rattle.report_text.specs.Text.{numberLine}
 use Rattle.report_text.proofs.lines.put_line.Statement.{statement}
 use Rattle.report_text.proofs.lines.put_line.Tie as tie
 
 put-requires : tie.Need-put-requires
-unfolding numberLine
-put-requires c κs = room-first _ (c .before .before .before .pre)
+put-requires c κs = search needs
 
 put-number-requires : tie.Need-put-number-requires
-unfolding numberLine
-put-number-requires c κs = room-first _ (room-next _ (c .before .before .before .before .before .before .before .pre) (c .before .before .before .put .ensures))
+put-number-requires c κs = search needs
 
 slice-aggregate-put : tie.Need-slice-aggregate-put
 slice-aggregate-put c = search needs
 
 put-requires-2 : tie.Need-put-requires-2
-unfolding numberLine
-put-requires-2 c κs = room-first _ (room-next _ (room-next _ (c .before .before .before .before .before .before .before .before .before .before .before .before .pre) (c .before .before .before .before .before .before .before .before .put .ensures)) (c .before .before .before .before .put-number .ensures))
+put-requires-2 c κs = search needs
 
 same-length : tie.Need-same-length
 same-length c = search needs

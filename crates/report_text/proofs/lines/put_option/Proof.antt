@@ -12,19 +12,18 @@ contains-requires-2 : tie.Need-contains-requires-2
 contains-requires-2 c κs = search needs
 
 put-option-line-requires : tie.Need-put-option-line-requires
-unfolding optionText
-put-option-line-requires c κs = rw (c .contains2 .ensures) (rw (sym (c .before .before .before .contains .ensures) ∙ c .before .before .if1 .taken) at (c .before .before .before .before .before .pre .0))
+put-option-line-requires c κs = search needs
 
 same-length : tie.Need-same-length
 same-length c = search needs
 
 returns : tie.Need-returns
 unfolding optionText
-returns c = rw (sym (c .before .before .before .before .before .before .contains .ensures) ∙ c .before .before .before .before .before .if1 .taken, sym (c .before .before .before .contains2 .ensures)) (c .before .before .put-option-line .ensures)
+returns c = rw (sym (c .before .before .before .before .before .before .contains .ensures) ∙ c .before .before .before .before .before .if1 .taken) (rw (c .before .before .before .contains2 .ensures) at (c .before .before .put-option-line .ensures))
 
 returns-2 : tie.Need-returns-2
 unfolding optionText
-returns-2 c = rw (sym (c .before .contains .ensures) ∙ c .if1 .left) (put-none _ _)
+returns-2 c = rw (sym (c .before .contains .ensures) ∙ c .if1 .left) (put-none _ _ (search needs) (search needs))
 
 pub put-option-spec : {M : Type 1} → statement M
 put-option-spec =

@@ -6,7 +6,7 @@ use native.Mathlib.Omega.{arith}
 use Rattle.buffer.specs.Stored.{joined}
 use Rattle.buffer.specs.Put.{Put}
 use Rattle.report_text.specs.Text.{optionText, optionsText}
-use Rattle.buffer.proofs.PutLaws.{put-none, put-kept, put-joined, room-joined}
+use Rattle.buffer.proofs.PutLaws.{put-none, put-kept, put-joined}
 use Rattle.report_text.proofs.lines.put_options.Statement.{statement}
 use Rattle.report_text.proofs.lines.put_options.Tie as tie
 
@@ -18,11 +18,10 @@ abbrev μ-loop : tie.MeasureT-loop
 
 loop-holds : tie.Need-loop-holds Inv-loop μ-loop
 unfolding optionsText joined
-loop-holds c = (search needs, put-none _ _)
+loop-holds c = (search needs, put-none _ _ (search needs) (search needs))
 
 put-option-requires : tie.Need-put-option-requires Inv-loop μ-loop
-unfolding optionsText
-put-option-requires c κs = (room-joined (optionText _ _) _ _ (c .before .loop-test .taken) (c .before .before .before .before .pre) (c .before .before .loop .inv .1), search needs)
+put-option-requires c κs = search needs
 
 add-a : tie.Need-add-a Inv-loop μ-loop
 add-a c = search needs

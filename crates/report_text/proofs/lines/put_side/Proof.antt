@@ -7,15 +7,13 @@ slice-aggregate-put : tie.Need-slice-aggregate-put
 slice-aggregate-put c = search needs
 
 put-requires : tie.Need-put-requires
-unfolding sideOf
-put-requires c κs = rw (c .before .before .if1 .taken) at (c .before .before .before .before .pre)
+put-requires c κs = search needs
 
 slice-aggregate-put-2 : tie.Need-slice-aggregate-put-2
 slice-aggregate-put-2 c = search needs
 
 put-requires-2 : tie.Need-put-requires-2
-unfolding sideOf
-put-requires-2 c κs = rw (c .before .before .if1 .left) at (c .before .before .before .before .pre)
+put-requires-2 c κs = search needs
 
 same-length : tie.Need-same-length
 same-length c = search needs

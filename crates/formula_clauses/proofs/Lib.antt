@@ -1,0 +1,2 @@
+-- Clauses put one behind another.
+pub mod LineLaws

@@ -1,0 +1,2 @@
+-- What is told and left, by the tests.
+pub mod EntryLaws
