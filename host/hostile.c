@@ -64,6 +64,8 @@ typedef struct {
         kb_searched searched;
         kb_replayed replayed;
         kb_ruled ruled;
+        kb_checked checked;
+        kb_looked looked;
         kb_values values;
         kb_formula_judgement formula_judgement;
     } reply;
@@ -134,8 +136,8 @@ static void call(entry e, const arguments *g, outcome *o) {
     case SEARCH: o->reply.searched = kb_search(f, l, g->position, g->rules); break;
     case REPLAY: o->reply.replayed = kb_replay(f, l, g->calls, g->call_count, g->rules); break;
     case ARC: o->reply.ruled = kb_arc(f, l, words, w); break;
-    case FORWARD_CHECK: o->reply.ruled = kb_forward_check(f, l, words, w, g->x, g->a); break;
-    case LOOK_AHEAD: o->reply.ruled = kb_look_ahead(f, l, words, w, g->x); break;
+    case FORWARD_CHECK: o->reply.checked = kb_forward_check(f, l, words, w, g->x, g->a); break;
+    case LOOK_AHEAD: o->reply.looked = kb_look_ahead(f, l, words, w, g->x); break;
     case PURE: o->reply.values = kb_pure(f, l, words, w, g->x); break;
     case INTERCHANGEABLE: o->reply.values = kb_interchangeable(f, l, words, w, g->x); break;
     case FORMULA: o->reply.written = kb_formula(f, l, g->lent, g->size); break;
@@ -314,8 +316,11 @@ static void expect(entry e, const arguments *g, outcome *o, const outcome *got) 
         open_options(j, &p, &o->reply.replayed.opened);
         break;
     case ARC: o->reply.ruled.lost = (uint64_t)arc(j, list), memcpy(o->lent, list, g->size); break;
-    case FORWARD_CHECK: o->reply.ruled.lost = (uint64_t)forward(j, list, g->x, (unsigned)g->a), memcpy(o->lent, list, g->size); break;
-    case LOOK_AHEAD: o->reply.ruled.lost = (uint64_t)ahead(j, list, g->x); break;
+    case FORWARD_CHECK:
+        o->reply.checked.lost = (uint64_t)forward(j, list, g->x, (unsigned)g->a, &o->reply.checked.variable);
+        memcpy(o->lent, list, g->size);
+        break;
+    case LOOK_AHEAD: o->reply.looked.lost = (uint64_t)ahead(j, list, g->x, &o->reply.looked.value, &o->reply.looked.variable); break;
     case PURE: case INTERCHANGEABLE: o->reply.values.values = kept(j, list, g->x, e == PURE); break;
     case FORMULA:
         o->reply.written.length = g->text_length;

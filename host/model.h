@@ -102,27 +102,28 @@ static int arc(const job *j, uint16_t *list) {
     return lost;
 }
 
-/* Rule 2. */
-static int forward(const job *j, uint16_t *list, uint64_t x, unsigned a) {
+/* Rule 2. Says whether it is a loss, and the first choice where it got stuck. */
+static int forward(const job *j, uint16_t *list, uint64_t x, unsigned a, uint64_t *named) {
     int lost = 0;
     list[x] = (uint16_t)(1u << a);
     for (uint64_t k = x + 1; k < j->n; k++) {
         uint16_t left = going(j, x, a, k, list[k]);
-        if (universal(j, k)) lost |= left != list[k];
-        else lost |= (list[k] = left) == 0;
+        int stuck = universal(j, k) ? left != list[k] : left == 0;
+        if (!universal(j, k)) list[k] = left;
+        if (stuck && !lost) *named = k;
+        lost |= stuck;
     }
     return lost;
 }
 
-/* Rule 3. */
-static int ahead(const job *j, const uint16_t *list, uint64_t x) {
+/* Rule 3. Says whether it finds a loss, and the first option and choice that show it. */
+static int ahead(const job *j, const uint16_t *list, uint64_t x, uint64_t *option, uint64_t *named) {
     uint16_t copy[32];
-    int lost = 0;
     for (unsigned a = 0; universal(j, x) && a < 16; a++) {
         memcpy(copy, list, 2 * j->n);
-        if (has(list[x], a)) lost |= forward(j, copy, x, a);
+        if (has(list[x], a) && forward(j, copy, x, a, named)) return *option = a, 1;
     }
-    return lost;
+    return 0;
 }
 
 /* Rules 4 and 5: the pure options of x; the options that have no smaller one alike. */

@@ -46,7 +46,7 @@ extern "C" {
 
 /* Raised by every change of a function or a struct below. A program asks `kb_interface() == KB_INTERFACE` once, before any other
    call: else header and library are not of one make. */
-#define KB_INTERFACE 2
+#define KB_INTERFACE 3
 
 #define KB_FINISHED 0
 #define KB_REFUSED 1
@@ -149,13 +149,34 @@ typedef struct {
     kb_opened opened;
 } kb_replayed;
 
-/* Whether a rule found a loss. */
+/* Whether arc found a loss. */
 typedef struct {
     uint64_t kind;
     uint64_t number;
     uint64_t place;
     uint64_t lost;      /* 1 or 0 */
 } kb_ruled;
+
+/* Whether a forward check is a loss. If so, `variable` names the lowest later choice that was emptied (the shift's) or that holds a
+   clash (the day's); else nothing is named, and it is zero. */
+typedef struct {
+    uint64_t kind;
+    uint64_t number;
+    uint64_t place;
+    uint64_t lost;      /* 1: a choice is named; or 0 */
+    uint64_t variable;
+} kb_checked;
+
+/* Whether look ahead finds a loss. If so, `value` names the smallest option whose forward check is a loss, and `variable` the choice
+   that this check names; else nothing is named, and both are zero. */
+typedef struct {
+    uint64_t kind;
+    uint64_t number;
+    uint64_t place;
+    uint64_t lost;      /* 1: an option and a choice are named; or 0 */
+    uint64_t value;
+    uint64_t variable;
+} kb_looked;
 
 /* A mask of options. */
 typedef struct {
@@ -256,12 +277,13 @@ kb_replayed kb_replay(const uint8_t *file, size_t length, const uint8_t *calls, 
 /* Arc (rule 1): the list is left without dead options, also in a loss. */
 kb_ruled kb_arc(const uint8_t *file, size_t length, uint16_t *list, size_t masks);
 
-/* Forward check (rule 2) of option a of choice x: the list is left as checked, also in a loss. Refuses last with 10 (an option that is
-   not in the list's mask). */
-kb_ruled kb_forward_check(const uint8_t *file, size_t length, uint16_t *list, size_t masks, uint64_t x, uint64_t a);
+/* Forward check (rule 2) of option a of choice x: the list is left as checked, also in a loss, and a loss names where it got stuck.
+   Refuses last with 10 (an option that is not in the list's mask). */
+kb_checked kb_forward_check(const uint8_t *file, size_t length, uint16_t *list, size_t masks, uint64_t x, uint64_t a);
 
-/* Look ahead (rule 3) at choice x. The list is only read. */
-kb_ruled kb_look_ahead(const uint8_t *file, size_t length, const uint16_t *list, size_t masks, uint64_t x);
+/* Look ahead (rule 3) at choice x: whether the forward check of one of its options is a loss, if it is the day's; of a shift's choice
+   it finds none. The list is only read. */
+kb_looked kb_look_ahead(const uint8_t *file, size_t length, const uint16_t *list, size_t masks, uint64_t x);
 
 /* The pure options of choice x (rule 4), and the smallest of each group of its options that are alike (rule 5). The list is only
    read. */

@@ -84,6 +84,23 @@ pub struct Ruled {
 
 #[repr(C)]
 #[derive(Clone, Copy, Debug, Default, PartialEq, Eq)]
+pub struct Checked {
+    pub answer: Answer,
+    pub lost: u64,
+    pub variable: u64,
+}
+
+#[repr(C)]
+#[derive(Clone, Copy, Debug, Default, PartialEq, Eq)]
+pub struct Looked {
+    pub answer: Answer,
+    pub lost: u64,
+    pub value: u64,
+    pub variable: u64,
+}
+
+#[repr(C)]
+#[derive(Clone, Copy, Debug, Default, PartialEq, Eq)]
 pub struct Values {
     pub answer: Answer,
     pub values: u64,
@@ -136,8 +153,8 @@ extern "C" {
     pub fn kb_replay(file: *const u8, length: usize, calls: *const u8, call_count: usize, rules: u64) -> Replayed;
 
     pub fn kb_arc(file: *const u8, length: usize, list: *mut u16, masks: usize) -> Ruled;
-    pub fn kb_forward_check(file: *const u8, length: usize, list: *mut u16, masks: usize, x: u64, a: u64) -> Ruled;
-    pub fn kb_look_ahead(file: *const u8, length: usize, list: *const u16, masks: usize, x: u64) -> Ruled;
+    pub fn kb_forward_check(file: *const u8, length: usize, list: *mut u16, masks: usize, x: u64, a: u64) -> Checked;
+    pub fn kb_look_ahead(file: *const u8, length: usize, list: *const u16, masks: usize, x: u64) -> Looked;
     pub fn kb_pure(file: *const u8, length: usize, list: *const u16, masks: usize, x: u64) -> Values;
     pub fn kb_interchangeable(file: *const u8, length: usize, list: *const u16, masks: usize, x: u64) -> Values;
 
@@ -165,7 +182,7 @@ macro_rules! replies {
         }
     )*};
 }
-replies!(Reading Found Written Opened Judgement Marks Ruled Values Searched FormulaJudgement);
+replies!(Reading Found Written Opened Judgement Marks Ruled Checked Looked Values Searched FormulaJudgement);
 
 /// The reply, where the call finished. Any kind but 0 is a refusal, and 2 one with a place.
 pub fn finished<T: Reply>(reply: T) -> Result<T, Refusal> {

@@ -52,12 +52,12 @@ pub use interface::{check_interface, OtherInterface};
 pub use position::Position;
 pub use problem::Problem;
 pub use refusal::{Reason, Refusal};
-pub use replies::{JudgedFormula, Marks, OpenValues, Reading, Replayed, Searched};
+pub use replies::{JudgedFormula, LosingValue, Marks, OpenValues, Reading, Replayed, Searched};
 pub use rule_set::RuleSet;
 pub use session::Session;
 
 /// The interface that this wrapper is written for: `KB_INTERFACE` of the header.
-pub const INTERFACE: u64 = 2;
+pub const INTERFACE: u64 = 3;
 /// The stack to give a call, in bytes: `KB_STACK` of the header.
 pub const STACK: usize = 131072;
 /// The stack to give [`File::judge_formula`], in bytes: `KB_FORMULA_STACK` of the header.

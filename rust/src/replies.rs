@@ -52,6 +52,15 @@ pub struct Searched {
     pub leaf: [u16; 32],
 }
 
+/// What a loss of look ahead names.
+#[derive(Clone, Copy, Debug, PartialEq, Eq)]
+pub struct LosingValue {
+    /// The smallest value whose forward check is a loss.
+    pub value: usize,
+    /// The variable that this check names.
+    pub variable: usize,
+}
+
 /// What judging a problem's formula replies.
 #[derive(Clone, Copy, Debug, PartialEq, Eq)]
 pub struct JudgedFormula {

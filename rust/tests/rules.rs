@@ -2,7 +2,7 @@
 
 use crate::plain::{self, Kind, Random};
 use crate::{lent, small_jobs, stored, tally::Tally};
-use kickballbox::{File, Reason, Refusal};
+use kickballbox::{File, LosingValue, Reason, Refusal};
 
 const NAMES: [&str; 5] = ["arc", "forward check", "look ahead", "pure", "interchangeable"];
 
@@ -30,15 +30,21 @@ fn cases() -> Vec<Case> {
     })
 }
 
-/// What a rule replies, by its number, and whether it leaves this list and touches no more.
-fn ruled(rule: u8, file: File, list: &[u16], x: usize, a: usize, left: &[u16]) -> (Result<u16, Refusal>, bool) {
+/// What a rule tells, by its number: 0 for no loss; 1 for a loss and what it names; a mask. And whether it leaves this list and touches
+/// no more.
+fn ruled(rule: u8, file: File, list: &[u16], x: usize, a: usize, left: &[u16]) -> (Result<Vec<usize>, Refusal>, bool) {
     lent::with_list(list, left, |list| match rule {
-        1 => file.arc(list).map(u16::from),
-        2 => file.forward_check(list, x, a).map(u16::from),
-        3 => file.look_ahead(list, x).map(u16::from),
-        4 => file.pure(list, x),
-        _ => file.interchangeable(list, x),
+        1 => file.arc(list).map(|lost| vec![lost.into()]),
+        2 => file.forward_check(list, x, a).map(|named| told(named.map(|variable| vec![variable]))),
+        3 => file.look_ahead(list, x).map(|named| told(named.map(|LosingValue { value, variable }| vec![value, variable]))),
+        4 => file.pure(list, x).map(|mask| vec![mask.into()]),
+        _ => file.interchangeable(list, x).map(|mask| vec![mask.into()]),
     })
+}
+
+/// A loss with what it names, or none.
+fn told(named: Option<Vec<usize>>) -> Vec<usize> {
+    named.map_or(vec![0], |names| [vec![1], names].concat())
 }
 
 #[test]
@@ -47,18 +53,50 @@ fn stored_rules() {
     for case in cases() {
         let file = File::new(&case.file);
         let expected = [
-            (case.arc.0.into(), &case.arc.1),
+            (usize::from(case.arc.0), &case.arc.1),
             (case.forward.0.into(), &case.forward.1),
             (case.ahead.into(), &case.list),
-            (case.pure, &case.list),
-            (case.interchangeable, &case.list),
+            (case.pure.into(), &case.list),
+            (case.interchangeable.into(), &case.list),
         ];
         for (rule, (reply, left)) in expected.into_iter().enumerate() {
-            let came = ruled(rule as u8 + 1, file, &case.list, case.x, case.a, left);
-            tallies[rule].compare(came, (Ok(reply), true));
+            let (came, kept) = ruled(rule as u8 + 1, file, &case.list, case.x, case.a, left);
+            tallies[rule].compare((came.map(|told| told[0]), kept), (Ok(reply), true));
         }
     }
     tallies.into_iter().for_each(|tally| tally.end(700));
+}
+
+/// What is stored behind a loss: so many names, each 255 where there is no loss.
+fn names(c: &mut stored::Cases, count: usize) -> Vec<usize> {
+    let lost = c.flag();
+    let names: Vec<usize> = c.bytes(count).into_iter().map(usize::from).collect();
+    assert!(lost || names.iter().all(|name| *name == 255), "a name where nothing is lost");
+    told(lost.then_some(names))
+}
+
+/// What losses of rules 2 and 3 name, and that nothing is named without one.
+#[test]
+fn stored_names() {
+    let mut tally = Tally::new("rules: stored names of forward check and look ahead");
+    let mut losses = [0; 2];
+    let cases = stored::all("card02.bin", |c| {
+        let file = c.file();
+        let list = c.words(file[2].into());
+        let (x, a) = (c.byte(), c.byte());
+        (list, x.into(), a, names(c, 1), names(c, 2), file)
+    });
+    for (list, x, a, forward, ahead, bytes) in cases {
+        let file = File::new(&bytes);
+        let mut left = list.clone();
+        plain::read(&bytes).expect("an accepted file").forward_check(&mut left, x, a);
+        let came = (ruled(2, file, &list, x, a.into(), &left), ruled(3, file, &list, x, 0, &list));
+        losses[0] += forward[0];
+        losses[1] += ahead[0];
+        tally.compare(came, ((Ok(forward), true), (Ok(ahead), true)));
+    }
+    println!("rules: stored names, losses of forward check and look ahead: {losses:?}");
+    tally.end(1200);
 }
 
 /// Every variable and value of generated lists, beside the rules' definitions.
@@ -81,23 +119,24 @@ fn generated_lists() {
         let bytes = plain::write(&p);
         let file = File::new(&bytes);
         let list: Vec<u16> = p.domains.iter().map(|domain| domain & random.next() as u16 | 1 << random.value(*domain)).collect();
-        let mut compare = |rule: u8, x: usize, a: u8, reply: u16, left: &[u16]| {
+        let mut compare = |rule: u8, x: usize, a: u8, reply: Vec<usize>, left: &[u16]| {
+            losses[rule as usize - 1] += u64::from(reply[0] != 0);
             tallies[rule as usize - 1].compare(ruled(rule, file, &list, x, a.into(), left), (Ok(reply), true));
-            losses[rule as usize - 1] += u64::from(reply != 0);
         };
         let mut left = list.clone();
         let loss = p.arc(&mut left);
-        compare(1, 0, 0, loss.into(), &left);
+        compare(1, 0, 0, vec![loss.into()], &left);
         for x in 0..list.len() {
             for a in (0..16).filter(|a| list[x] >> a & 1 == 1) {
                 let mut left = list.clone();
-                let loss = p.forward_check(&mut left, x, a);
-                compare(2, x, a, loss.into(), &left);
+                let stuck = p.forward_check(&mut left, x, a);
+                compare(2, x, a, told(stuck.first().map(|variable| vec![*variable])), &left);
                 checks += 1;
             }
-            compare(3, x, 0, p.look_ahead(&list, x).into(), &list);
-            compare(4, x, 0, p.pure(&list, x), &list);
-            compare(5, x, 0, p.interchangeable(&list, x), &list);
+            let losing = p.look_ahead(&list, x);
+            compare(3, x, 0, told(losing.first().map(|(value, variable)| vec![usize::from(*value), *variable])), &list);
+            compare(4, x, 0, vec![p.pure(&list, x).into()], &list);
+            compare(5, x, 0, vec![p.interchangeable(&list, x).into()], &list);
             variables += 1;
         }
         lists += 1;

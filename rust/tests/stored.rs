@@ -192,6 +192,28 @@ pub fn searches() -> Vec<Search> {
     all("search.bin", |c| search(c, |c, n| c.bytes(n).into_iter().map(u16::from).collect()))
 }
 
+/// A turn whose loss rule 2 or rule 3 finds.
+pub struct NamedTurn {
+    pub file: Vec<u8>,
+    pub rules: RuleSet,
+    pub position: Position,
+    /// Whether it is the first turn of a search, or one below it.
+    pub first: bool,
+    /// The played variables that share a constraint with the variable that the loss names.
+    pub neighbours: u32,
+}
+
+/// The turns that the program `trial_turns` reads.
+pub fn named_turns() -> Vec<NamedTurn> {
+    all("../crates/trial_turns/stdin", |c| {
+        let file = c.file();
+        let rules = RuleSet::new(c.byte().into()).expect("a rule set");
+        let position = played(c);
+        let [turn, _rule, _named] = [c.byte(), c.byte(), c.byte()];
+        NamedTurn { file, rules, position, first: turn == 0, neighbours: c.long() }
+    })
+}
+
 fn search(c: &mut Cases, shown: impl Fn(&mut Cases, usize) -> Vec<u16>) -> Search {
     let file = c.file();
     let rules = RuleSet::new(c.byte().into()).expect("a rule set");

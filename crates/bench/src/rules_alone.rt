@@ -2,9 +2,11 @@
 ghost use mathlib.Core.Path.{_≡_};
 ghost use lib.ListN.{getD};
 ghost use Rattle.file_reader.specs.Reading.{domainsOf};
-ghost use Rattle.rule_entries.specs.Alone.{told, toldValues, arcTold, arcLeft, forwardTold, forwardLeft, aheadTold, pureTold, interchangeableTold};
+ghost use Rattle.rule_entries.specs.Alone.{told, toldCheck, toldLook, toldValues, arcTold, arcLeft, forwardTold, forwardLeft, aheadTold, pureTold, interchangeableTold};
 ghost use Rattle.bench.specs.Number.{asNumber};
 use file_decoder::decode;
+use rule_entries::Check;
+use rule_entries::Look;
 use rule_entries::Ruled;
 use rule_entries::Values;
 use rule_entries::arc;
@@ -22,6 +24,28 @@ fn ruled(r: Ruled) -> u64
         Ruled::Lost => 1,
         Ruled::Refused(_) => 2,
         Ruled::RefusedAt(_, _) => 3,
+    }
+}
+
+fn checked(r: Check) -> u64
+    ensures { λ k. ⌜ k ≡ asNumber 2 (toldCheck r) ⌝ }
+{
+    match r {
+        Check::Stands => 0,
+        Check::Lost(_) => 1,
+        Check::Refused(_) => 2,
+        Check::RefusedAt(_, _) => 3,
+    }
+}
+
+fn looked(r: Look) -> u64
+    ensures { λ k. ⌜ k ≡ asNumber 2 (toldLook r) ⌝ }
+{
+    match r {
+        Look::Stands => 0,
+        Look::Lost(_, _) => 1,
+        Look::Refused(_) => 2,
+        Look::RefusedAt(_, _) => 3,
     }
 }
 
@@ -62,14 +86,14 @@ pub extern "C" fn bench_forward(f: &[u8], list: &mut [u16], x: usize, a: usize) 
     ensures { λ r. ⌜ r ≡ asNumber 2 (forwardTold (now (f .entry)) (now (list .entry)) x a) ⌝ }
     ensures { λ _. ⌜ now (list .exit) ≡ forwardLeft (now (f .entry)) (now (list .entry)) x a ⌝ }
 {
-    ruled(forward_check(f, list, x, a))
+    checked(forward_check(f, list, x, a))
 }
 
 #[no_mangle]
 pub extern "C" fn bench_look_ahead(f: &[u8], list: &[u16], x: usize) -> u64
     ensures { λ r. ⌜ r ≡ asNumber 2 (aheadTold (now (f .entry)) (now (list .entry)) x) ⌝ }
 {
-    ruled(look_ahead(f, list, x))
+    looked(look_ahead(f, list, x))
 }
 
 #[no_mangle]

@@ -31,7 +31,7 @@ pub mod LookAhead
 pub mod Pure
 -- Rule 5.
 pub mod Interchangeable
--- The turn: its rules in order, and the list that they reach.
+-- The turn: its rules in order, the list that they reach, and what its loss names.
 pub mod Turn
 -- Rules 1 to 3 with reasons, for the conflict sets of rule 6.
 pub mod Reasons

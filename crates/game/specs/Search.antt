@@ -13,7 +13,7 @@ use Rattle.game.specs.Lists.{domains}
 use Rattle.game.specs.Position.{playOf}
 use Rattle.game.specs.Rule.{uses, ListRule, ifSo, andNext}
 use Rattle.game.specs.Turn.{firstList, nextList, narrowPure, narrowInterchangeable}
-use Rattle.game.specs.Reasons.{firstReasons, nextReasons, explained}
+use Rattle.game.specs.Reasons.{firstReasons, nextReasons, choose, explainChecks, explained}
 
 -- A turn is won with a leaf, the values of all variables; or lost with a conflict set, a mask of variables.
 pub data Ending : Type 0 where
@@ -77,10 +77,14 @@ module _ (P : Problem) where
       let x = first n (λ x. some n (λ y. true) (broken p x)) in
       bitOr (2 ^ x) (2 ^ first n (broken p x))
 
+  -- The conflict set of rule 2 where it finds the turn's loss, else nothing.
+  unfoldable pub checkSet : ℕ → ℕ → List ℕ → List ℕ → List ℕ → ℕ
+  checkSet S c p l R = let o = choose (uses S 2) (explainChecks P (length p - c) c p) l R in cond (o .loss) (o .set) 0
+
   -- All variables are played: won with the play, or lost where a constraint is broken ("a lost leaf carries the two choices of its first
-  -- broken table"), also where a rule found the loss.
-  unfoldable pub leaf : Bool → List ℕ → Ending
-  leaf loss p = cond (not loss && satisfied compatible n (playOf p)) (solved p) (failed (firstBroken p))
+  -- broken table"), also where a rule found the loss; where that is rule 2, its conflict set U too.
+  unfoldable pub leaf : Bool → ℕ → List ℕ → Ending
+  leaf loss U p = cond (not loss && satisfied compatible n (playOf p)) (solved p) (failed (bitOr (firstBroken p) U))
 
   -- No constraint is broken by any values of the domains W.
   unfoldable pub solid : Domains → Bool
@@ -108,7 +112,7 @@ module _ (P : Problem) where
 
   -- A turn after the plays p, of which those from c on are not yet checked, with k variables left; its list is l, with the reasons R.
   unfoldable pub search : ℕ → ℕ → ℕ → List ℕ → List ℕ → List ℕ → Ending
-  search S c zero p l R = let o = explained P S c p l R in handUp (uses S 6) (length p) (leaf (o .loss) p)
+  search S c zero p l R = let o = explained P S c p l R in handUp (uses S 6) (length p) (leaf (o .loss) (checkSet S c p l R) p)
   search S c (suc k) p l R =
       let i = length p in
       let o = explained P S c p l R in

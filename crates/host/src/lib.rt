@@ -15,7 +15,7 @@ ghost use Rattle.judging.specs.Judging.{judgeTold, judgeLeft};
 ghost use Rattle.judging.specs.Searching.{searchFound};
 ghost use Rattle.marking.specs.Marking.{markTold, markLeft};
 ghost use Rattle.host_replies.specs.Replies.{readFileOf, foundOf, writtenOf, answerOf, movedOf, openedOf, judgementOf, marksOf};
-ghost use Rattle.host_replies.specs.Replies.{searchedOf, ruledOf, valuesOf, formulaJudgementOf};
+ghost use Rattle.host_replies.specs.Replies.{searchedOf, ruledOf, checkedOf, lookedOf, valuesOf, formulaJudgementOf};
 ghost use Rattle.host.specs.Unpack.{unpack};
 ghost use Rattle.host.specs.Handed.{setHanded};
 ghost use Rattle.host.specs.Text.{textTold, textLeft};
@@ -33,9 +33,11 @@ use formula_entries::write_formula;
 use handed::set_handed;
 use history::replay;
 use host_replies::CallAnswer;
+use host_replies::CheckedList;
 use host_replies::FormulaJudgement;
 use host_replies::FoundRows;
 use host_replies::Judgement;
+use host_replies::LookedAhead;
 use host_replies::Marks;
 use host_replies::MovedPosition;
 use host_replies::OpenMasks;
@@ -45,10 +47,12 @@ use host_replies::RuledList;
 use host_replies::SearchFindings;
 use host_replies::ValueMask;
 use host_replies::WrittenBytes;
+use host_replies::checked_shown;
 use host_replies::formula_shown;
 use host_replies::found_shown;
 use host_replies::judged_formula_shown;
 use host_replies::judged_shown;
+use host_replies::looked_shown;
 use host_replies::marked_shown;
 use host_replies::moved_shown;
 use host_replies::opened_shown;
@@ -77,9 +81,9 @@ use unpack::unpacked;
 // KB_INTERFACE of the header: raised by every change of a signature or a struct.
 #[no_mangle]
 pub extern "C" fn kb_interface() -> u64
-    ensures { λ r. ⌜ r ≡ 2 ⌝ }
+    ensures { λ r. ⌜ r ≡ 3 ⌝ }
 {
-    2
+    3
 }
 
 // Reads a file.
@@ -263,19 +267,19 @@ pub extern "C" fn kb_arc(f: &[u8], list: &mut [u16]) -> RuledList
 
 // Rule 2, for value a of variable x.
 #[no_mangle]
-pub extern "C" fn kb_forward_check(f: &[u8], list: &mut [u16], x: u64, a: u64) -> RuledList
-    ensures { λ r. ⌜ r ≡ ruledOf (forwardTold (now (f .entry)) (now (list .entry)) x a) ⌝ }
+pub extern "C" fn kb_forward_check(f: &[u8], list: &mut [u16], x: u64, a: u64) -> CheckedList
+    ensures { λ r. ⌜ r ≡ checkedOf (forwardTold (now (f .entry)) (now (list .entry)) x a) ⌝ }
     ensures { λ _. ⌜ now (list .exit) ≡ forwardLeft (now (f .entry)) (now (list .entry)) x a ⌝ }
 {
-    ruled_shown(forward_check(f, list, x as usize, a as usize))
+    checked_shown(forward_check(f, list, x as usize, a as usize))
 }
 
 // Rule 3, at variable x.
 #[no_mangle]
-pub extern "C" fn kb_look_ahead(f: &[u8], list: &[u16], x: u64) -> RuledList
-    ensures { λ r. ⌜ r ≡ ruledOf (aheadTold (now (f .entry)) (now (list .entry)) x) ⌝ }
+pub extern "C" fn kb_look_ahead(f: &[u8], list: &[u16], x: u64) -> LookedAhead
+    ensures { λ r. ⌜ r ≡ lookedOf (aheadTold (now (f .entry)) (now (list .entry)) x) ⌝ }
 {
-    ruled_shown(look_ahead(f, list, x as usize))
+    looked_shown(look_ahead(f, list, x as usize))
 }
 
 // Rule 4, at variable x.

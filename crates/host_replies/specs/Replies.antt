@@ -19,7 +19,9 @@ use Rattle.host_replies.specs.declared.games.Judgement.{Judgement}
 use Rattle.host_replies.specs.declared.games.Marks.{Marks}
 use Rattle.host_replies.specs.declared.games.ReplayedCalls.{ReplayedCalls}
 use Rattle.host_replies.specs.declared.games.SearchFindings.{SearchFindings}
-use Rattle.host_replies.specs.declared.rules.RuledList.{RuledList}
+use Rattle.host_replies.specs.declared.arcs.RuledList.{RuledList}
+use Rattle.host_replies.specs.declared.checks.CheckedList.{CheckedList}
+use Rattle.host_replies.specs.declared.looks.LookedAhead.{LookedAhead}
 use Rattle.host_replies.specs.declared.values.ValueMask.{ValueMask}
 
 unfoldable pub kindOf : Told → ℕ
@@ -94,6 +96,13 @@ searchedOf s =
 
 unfoldable pub ruledOf : Told → RuledList
 ruledOf t = record { kind = kindOf t; number = numberOf t; place = placeOf t; lost = valueOf t 0 }
+
+-- A loss of rule 2 names a variable, one of rule 3 a value and a variable; behind no loss no value stands.
+unfoldable pub checkedOf : Told → CheckedList
+checkedOf t = record { kind = kindOf t; number = numberOf t; place = placeOf t; lost = valueOf t 0; variable = valueOf t 1 }
+
+unfoldable pub lookedOf : Told → LookedAhead
+lookedOf t = record { kind = kindOf t; number = numberOf t; place = placeOf t; lost = valueOf t 0; value = valueOf t 1; variable = valueOf t 2 }
 
 unfoldable pub valuesOf : Told → ValueMask
 valuesOf t = record { kind = kindOf t; number = numberOf t; place = placeOf t; values = valueOf t 0 }

@@ -6,8 +6,10 @@ ghost use Rattle.solver_arrays.specs.Arrays.{InRange};
 ghost use Rattle.solver_arrays.specs.Words.{Nonzero};
 ghost use Rattle.rule_forward.specs.Replies.{Forwarded};
 ghost use Rattle.rule_entries.specs.Inner.{ForwardOn, AheadOn, ForwardIn, AheadIn};
-use crate::Ruled;
+use crate::Check;
+use crate::Look;
 use refusal::Verdict;
+use rule_forward::Ahead;
 use rule_forward::forward;
 use rule_forward::look_ahead;
 use rule_lend::put_back;
@@ -38,7 +40,7 @@ fn check_words(
     forward(near, index, rows, n, universal, x, a, w).named
 }
 
-// Whether the forward check is a loss.
+// The variable that the forward check names, n where it is no loss.
 fn forward_on(
     near: &Near,
     index: &Index,
@@ -48,17 +50,18 @@ fn forward_on(
     list: &mut [u16],
     x: usize,
     a: usize,
-) -> bool
+) -> usize
     requires { ⌜ (n ≤ 32) × (x < n) × (a < 16) × (length (now list) ≡ n) × InRange (now index) × Nonzero n (now list) ⌝ }
     ensures { λ r. ⌜ ForwardOn n universal (now (near .entry)) (now (index .entry)) (now (rows .entry)) (now (list .entry))
         (now (list .exit)) x a r ⌝ }
 {
     let mut w = words_of(n, list);
-    let v = check_words(near, index, rows, n, universal, &mut w, x, a);
+    let named = check_words(near, index, rows, n, universal, &mut w, x, a);
     put_back(n, &w, list);
-    v < n
+    named
 }
 
+// The value that look ahead names, 16 where it finds no loss, and the variable that its check names.
 fn ahead_on(
     near: &Near,
     index: &Index,
@@ -67,12 +70,13 @@ fn ahead_on(
     universal: u32,
     list: &[u16],
     x: usize,
-) -> bool
+) -> Ahead
     requires { ⌜ (n ≤ 32) × (x < n) × (length (now list) ≡ n) × InRange (now index) × Nonzero n (now list) ⌝ }
-    ensures { λ r. ⌜ AheadOn n universal (now (near .entry)) (now (index .entry)) (now (rows .entry)) (now (list .entry)) x r ⌝ }
+    ensures { λ r. ⌜ AheadOn n universal (now (near .entry)) (now (index .entry)) (now (rows .entry)) (now (list .entry)) x
+        (r .value) (r .variable) ⌝ }
 {
     let w = words_of(n, list);
-    look_ahead(near, index, rows, n, universal, x, &w).value < 16
+    look_ahead(near, index, rows, n, universal, x, &w)
 }
 
 pub fn forward_in(
@@ -83,7 +87,7 @@ pub fn forward_in(
     list: &mut [u16],
     x: usize,
     a: usize,
-) -> Ruled
+) -> Check
     requires { ⌜ (v .n ≤ 32) × InRange (now index) ⌝ }
     ensures { λ r. ⌜ ForwardIn v (now (near .entry)) (now (index .entry)) (now (rows .entry))
         (now (list .entry)) (now (list .exit)) x a r ⌝ }
@@ -91,12 +95,13 @@ pub fn forward_in(
     let d = v.domains;
     let t = value_test(v.n, &d, list, x, a);
     match t {
-        Verdict::Refused(number, _) => Ruled::Refused(number),
+        Verdict::Refused(number, _) => Check::Refused(number),
         Verdict::Fine => {
-            if forward_on(near, index, rows, v.n, v.universal, list, x, a) {
-                Ruled::Lost
+            let named = forward_on(near, index, rows, v.n, v.universal, list, x, a);
+            if named < v.n {
+                Check::Lost(named)
             } else {
-                Ruled::Stands
+                Check::Stands
             }
         }
     }
@@ -109,7 +114,7 @@ pub fn ahead_in(
     v: Variables,
     list: &[u16],
     x: usize,
-) -> Ruled
+) -> Look
     requires { ⌜ (v .n ≤ 32) × InRange (now index) ⌝ }
     ensures { λ r. ⌜ AheadIn v (now (near .entry)) (now (index .entry)) (now (rows .entry))
         (now (list .entry)) x r ⌝ }
@@ -117,12 +122,13 @@ pub fn ahead_in(
     let d = v.domains;
     let t = variable_test(v.n, &d, list, x);
     match t {
-        Verdict::Refused(number, _) => Ruled::Refused(number),
+        Verdict::Refused(number, _) => Look::Refused(number),
         Verdict::Fine => {
-            if ahead_on(near, index, rows, v.n, v.universal, list, x) {
-                Ruled::Lost
+            let h = ahead_on(near, index, rows, v.n, v.universal, list, x);
+            if h.value < 16 {
+                Look::Lost(h.value, h.variable)
             } else {
-                Ruled::Stands
+                Look::Stands
             }
         }
     }

@@ -1,22 +1,26 @@
 -- The last turn: the words hold a play of all variables.
-use mathlib.Core.Path.{_≡_, refl, sym, ap, subst, _∙_}
-use mathlib.Core.Bool.{Bool, true, false, cond}
+use mathlib.Core.Path.{_≡_, refl, sym, ap, ap₂, subst, _∙_}
+use mathlib.Core.Bool.{Bool, true, false, cond, _&&_}
 use mathlib.Core.List.{List}
 use mathlib.Core.Logic.{inl, inr}
 use Prim.Native.Nat.{ℕ, _+_, _-_, _^_, _≤_, _<_}
 use native.Mathlib.Omega.{arith}
-use lib.Dec.{T}
+use lib.Dec.{T, eqb}
+use lib.Bits.{bitOr}
 use lib.Pow.{pow-mono}
 use lib.ListN.{getD, length}
 use lib.Seq.{ext-getD}
-use Rattle.mask.proofs.Logic.{holds, by-lt}
+use borrow.Author.Tests.{eq-eqb, ne-eqb}
+use Rattle.mask.proofs.Logic.{holds, test, by-eq, by-lt}
 use Rattle.game.specs.Problem.{Problem}
 use Rattle.game.specs.Game.{satisfied}
 use Rattle.game.specs.Position.{playOf}
 use Rattle.game.specs.Rule.{uses}
-use Rattle.game.specs.Search.{solved, failed, handed, firstBroken, search}
+use Rattle.game.specs.Reasons.{explained}
+use Rattle.game.specs.Search.{solved, failed, handed, firstBroken, checkSet, search}
 use Rattle.theory.proofs.Theorems as theorems
 use Rattle.theory.proofs.Quiet.{turn-unbroken}
+use Rattle.theory.proofs.LastChecks.{unused-none, first-finds, below-finds-none}
 use Rattle.solver_arrays.specs.Arrays.{States}
 use Rattle.solver_arrays.specs.Words.{listIn, whyIn, leafIn}
 use Rattle.solver_arrays.proofs.WordLaws.{length-listIn, getD-listIn}
@@ -51,13 +55,32 @@ module _ (P : Problem) (n universal : ℕ) (near index rows : List ℕ) (st : St
       let all = turn-unbroken P S (turn .plays) (turn .legal-start) c p (listIn n w) (whyIn n w) (turn .turn) one z (turn .count ∙ sym (st .size)) in
       ap (λ (b : Bool). cond b 0 (firstBroken P p)) (sym (holds {b = satisfied (P .compatible) n (playOf p)} (subst (λ k. T (satisfied (P .compatible) k (playOf p))) (st .size) all)))
 
-  -- The game's reply, by the constraints alone.
-  reply : search P S c (n - n) p (listIn n w) (whyIn n w) ≡ cond (satisfied (P .compatible) n (playOf p)) (solved p) (failed (handed (uses S 6) n (firstBroken P p)))
+  -- The conflict set of rule 2.
+  abbrev own : ℕ
+  own = checkSet P S c p (listIn n w) (whyIn n w)
+
+  -- The game's reply, by the constraints and that set.
+  reply : search P S c (n - n) p (listIn n w) (whyIn n w) ≡ cond (satisfied (P .compatible) n (playOf p)) (solved p) (failed (handed (uses S 6) n (bitOr (firstBroken P p) own)))
   reply =
       let z : n - n ≡ 0 = omega arith in
       ap (λ k. search P S c k p (listIn n w) (whyIn n w)) z
       ∙ theorems.turn-leaf P S (turn .plays) (turn .legal-start) c p (listIn n w) (whyIn n w) (turn .turn) (turn .count ∙ sym (st .size))
-      ∙ ap (λ k. cond (satisfied (P .compatible) k (playOf p)) (solved p) (failed (handed (uses S 6) k (firstBroken P p)))) (st .size)
+      ∙ ap (λ k. cond (satisfied (P .compatible) k (playOf p)) (solved p) (failed (handed (uses S 6) k (bitOr (firstBroken P p) own)))) (st .size)
+
+  -- The set of rule 2 by that of all rules, where a constraint is broken.
+  own-set : satisfied (P .compatible) n (playOf p) ≡ false → (lost : Bool) (conflict : ℕ) → lost ≡ explained P S c p (listIn n w) (whyIn n w) .loss
+      → (lost ≡ true → conflict ≡ explained P S c p (listIn n w) (whyIn n w) .set) → cond (eqb c 0 && uses S 2) conflict 0 ≡ own
+  own-set sat lost conflict loss set =
+      let size = st .size in
+      by-eq c 0
+      (λ h. test (uses S 2)
+      (λ u.
+      let two = holds {b = uses S 2} u in
+      let f = first-finds P S (turn .plays) (turn .legal-start) c p (listIn n w) (whyIn n w) (turn .turn) (turn .count ∙ sym size) h (ap (λ k. satisfied (P .compatible) k (playOf p)) size ∙ sat) two in
+      ap (λ b. cond (b && uses S 2) conflict 0) (eq-eqb c 0 h) ∙ ap (λ b. cond b conflict 0) two ∙ set (loss ∙ f .0) ∙ sym (f .1))
+      (λ e. ap (λ b. cond (b && uses S 2) conflict 0) (eq-eqb c 0 h) ∙ ap (λ b. cond b conflict 0) e ∙ sym (unused-none P S c p (listIn n w) (whyIn n w) e)))
+      (λ h. ap (λ b. cond (b && uses S 2) conflict 0) (ne-eqb c 0 h)
+      ∙ sym (below-finds-none P S (turn .plays) (turn .legal-start) c p (listIn n w) (whyIn n w) (turn .turn) (turn .count ∙ sym size) h))
 
   module _ (broken : ℕ) (tells : TellsBroken n universal near index rows S c w broken) where
     told : broken ≡ brokenMask P n p
@@ -78,17 +101,29 @@ module _ (P : Problem) (n universal : ℕ) (near index rows : List ℕ) (st : St
         → search P S c (n - n) p (listIn n w) (whyIn n w) ≡ replyIn n true q w'
     unfolding replyIn
     last-won z b m w' e q =
-        reply ∙ ap (λ s. cond s (solved p) (failed (handed (uses S 6) n (firstBroken P p)))) (unbroken z)
+        reply ∙ ap (λ s. cond s (solved p) (failed (handed (uses S 6) n (bitOr (firstBroken P p) own)))) (unbroken z)
         ∙ ap solved (sym (ap (leafIn n) e ∙ leaf-of-play n w p (omega arith) all-played))
 
-    pub last-lost : ¬ (broken ≡ 0) → (six : Bool) → six ≡ uses S 6 → (set : ℕ) → set ≡ handed six n broken → (w' : List ℕ)
+    -- Some constraint is broken, and broken is its mask.
+    lost-by : ¬ (broken ≡ 0) → (satisfied (P .compatible) n (playOf p) ≡ false) × (broken ≡ firstBroken P p)
+    lost-by z = go (satisfied (P .compatible) n (playOf p)) told
+      where
+        go : (s : Bool) → broken ≡ cond s 0 (firstBroken P p) → (s ≡ false) × (broken ≡ firstBroken P p)
+        go true r = absurd (z r)
+        go false r = (refl, r)
+
+    -- The reply of the code: `lost` and `conflict` are those of its rules.
+    pub last-lost : ¬ (broken ≡ 0) → (lost : Bool) (conflict : ℕ) → lost ≡ explained P S c p (listIn n w) (whyIn n w) .loss
+        → (lost ≡ true → conflict ≡ explained P S c p (listIn n w) (whyIn n w) .set)
+        → (checked : ℕ) → checked ≡ cond (eqb c 0 && uses S 2) conflict 0
+        → (six : Bool) → six ≡ uses S 6 → (set : ℕ) → set ≡ handed six n (bitOr broken checked) → (w' : List ℕ)
         → search P S c (n - n) p (listIn n w) (whyIn n w) ≡ replyIn n false set w'
     unfolding replyIn
-    last-lost z six s set e w' = reply ∙ go (satisfied (P .compatible) n (playOf p)) told ∙ ap failed (sym (e ∙ ap (λ b. handed b n broken) s))
-      where
-        go : (s : Bool) → broken ≡ cond s 0 (firstBroken P p) → cond s (solved p) (failed (handed (uses S 6) n (firstBroken P p))) ≡ failed (handed (uses S 6) n broken)
-        go true r = absurd (z r)
-        go false r = ap (λ b. failed (handed (uses S 6) n b)) (sym r)
+    last-lost z lost conflict loss found checked k six s set e w' =
+        let b = lost-by z in
+        reply ∙ ap (λ s. cond s (solved p) (failed (handed (uses S 6) n (bitOr (firstBroken P p) own)))) (b .0)
+        ∙ ap (λ U. failed (handed (uses S 6) n U)) (ap₂ bitOr (sym (b .1)) (sym (k ∙ own-set (b .0) lost conflict loss found)))
+        ∙ ap failed (sym (e ∙ ap (λ b. handed b n (bitOr broken checked)) s))
 
 -- The room, with a leaf and without.
 module _ (n : ℕ) (w w' : List ℕ) (m : n ≤ 32) (b : 128 ≤ length w) (blank : Blank 128 w) where

@@ -2,8 +2,9 @@
 // variables are played. It rests on `search_rules`, `rule_narrow`, `rule_skip`, `search_words` and `search_leaf`. Every public function is
 // for `search_turns`; `Outcome` and `last_turn` are for `search_run` too.
 ghost use mathlib.Core.Path.{_≡_};
-ghost use mathlib.Core.Bool.{true, false, not, _&&_};
+ghost use mathlib.Core.Bool.{true, false, cond, not, _&&_};
 ghost use Prim.Native.Nat.{_≤_, _<_};
+ghost use lib.Dec.{eqb};
 ghost use lib.ListN.{length};
 ghost use Rattle.mask.specs.Mask.{bit};
 ghost use Rattle.game.specs.Rule.{uses};
@@ -55,8 +56,21 @@ fn broken_in(near: &Near, index: &Index, rows: &Rows, g: Setting, c: usize, w: &
     first_broken(near, index, rows, g.n, w)
 }
 
-// All variables are played: won with the play as leaf, or lost with the first broken constraint. Where none is broken the
-// rules change nothing (theory, `turn-leaf-list`), so they run only on a lost leaf.
+// The conflict set of rule 2 in a lost last turn, given that of its rules. In a first turn rule 2 finds the loss, if the set has it
+// (theory, `first-finds`); below another turn it finds none (`below-finds-none`).
+fn check_set(set: RuleSet, c: usize, conflict: u32) -> u32
+    ensures { λ r. ⌜ r ≡ cond (eqb c 0 && uses (set .bits) 2) conflict 0 ⌝ }
+{
+    if c == 0 {
+        if set.uses(2) {
+            return conflict;
+        }
+    }
+    0
+}
+
+// All variables are played: won with the play as leaf, or lost with the first broken constraint and the conflict set of rule 2. Where
+// none is broken the rules change nothing (theory, `turn-leaf-list`), so they run only on a lost leaf.
 pub fn last_turn(
     near: &Near,
     index: &Index,
@@ -81,10 +95,11 @@ pub fn last_turn(
     }
     let s = run_rules(near, index, rows, g, c, g.n, room);
     let set = g.set;
+    let checked = check_set(set, c, s.conflict);
     Outcome {
         loss: s.loss,
         won: false,
-        conflict: handed(set.uses(6), g.n, broken),
+        conflict: handed(set.uses(6), g.n, broken | checked),
     }
 }
 

@@ -70,6 +70,10 @@ pub mod Plain
 pub mod Turns
 -- Variables without effect on others.
 pub mod Quiet
+-- What a turn's loss names: its conflict set holds the played neighbours.
+pub mod Named
+-- Rule 2 where all variables are played.
+pub mod LastChecks
 -- Conflict sets change no leaf.
 pub mod SameLeaf
 -- The search computed on small problems.

@@ -56,7 +56,7 @@ module _ (P : Problem) (F : Domains) (foe : Play) (foe-in : Answers P F foe) whe
       go true e = refl
       go false e = g (r l R .list) (r l R .why) (just-ready P F foe foe-in i p l (r l R) (h l R w) e)
 
-  choose-plain : (b : Bool) (i : ℕ) (p : Play) (r : Ruling) (s : ListRule) → (T b → Plain i p r s) → Plain i p (choose b r) (ifSo b s)
+  pub choose-plain : (b : Bool) (i : ℕ) (p : Play) (r : Ruling) (s : ListRule) → (T b → Plain i p r s) → Plain i p (choose b r) (ifSo b s)
   unfolding choose ifSo idle unruled
   choose-plain true i p r s f = f tt
   choose-plain false i p r s f = λ l R w. refl
@@ -73,14 +73,14 @@ module _ (P : Problem) (F : Domains) (foe : Play) (foe-in : Answers P F foe) whe
   unfolding explainAhead ahead
   ahead-plain i p x l R w = refl
 
-  checks-plain : (i : ℕ) (p : List ℕ) → i ≤ n → (k x : ℕ) → k + x ≤ i → Plain i (playOf p) (explainChecks P k x p) (checks P k x p)
+  pub checks-plain : (i : ℕ) (p : List ℕ) → i ≤ n → (k x : ℕ) → k + x ≤ i → Plain i (playOf p) (explainChecks P k x p) (checks P k x p)
   unfolding explainChecks checks playOf
   checks-plain i p h zero x z = idle-plain i (playOf p)
   checks-plain i p h (suc k) x z =
       chain-plain i (playOf p) (explainForward P x (getD p x 0)) (explainChecks P k (suc x) p) (forward P x (getD p x 0)) (checks P k (suc x) p)
       (Explained.explainForward-holds P F foe foe-in i (playOf p) h x (omega arith)) (forward-plain i (playOf p) x (getD p x 0)) (checks-plain i p h k (suc x) (omega arith))
 
-  arc-plain : (i : ℕ) (p : Play) → Plain i p (explainArc P) (arc P)
+  pub arc-plain : (i : ℕ) (p : Play) → Plain i p (explainArc P) (arc P)
   unfolding explainArc arc
   arc-plain i p l R w =
       let s : Sheet = record { list = l; why = R } in

@@ -11,7 +11,7 @@ use borrow.Author.Tests.{eq-eqb, eqb-true, lt-ltb, le-ltb, not-false}
 use Rattle.mask.specs.Range.{some, each}
 use Rattle.mask.specs.Mask.{bit}
 use Rattle.mask.proofs.Logic.{same, holds, true-holds, fails, clash, test, by-eq}
-use Rattle.mask.proofs.Range.{some-out, some-in, each-in}
+use Rattle.mask.proofs.Range.{some-out, some-in}
 use Rattle.mask.proofs.Bits.{bit-single}
 use Rattle.game.specs.Problem.{Problem}
 use Rattle.game.specs.Game.{Domains, satisfied}
@@ -26,6 +26,7 @@ use Rattle.game.specs.Search.{narrowNext}
 use Rattle.game.specs.Turns.{TurnOf, first, below}
 use Rattle.theory.specs.AnyOrder.{Formed}
 use Rattle.theory.specs.TurnList.{AtTurn}
+use Rattle.theory.proofs.Moves.{satisfied-in}
 use Rattle.theory.proofs.Arc.{Closed}
 use Rattle.theory.proofs.Revisions.{revisions-closed, kills-local}
 use Rattle.theory.proofs.Explained as explaining
@@ -36,7 +37,7 @@ use Rattle.theory.proofs.Turns.{At, turn-at, turn-list, entry-loss, ent
 use Rattle.theory.proofs.Lists.{domains-boxed, lent-out}
 
 -- A chain of rules without a loss ends with what its last rule leaves.
-chain-through : (r s : Ruling) (l R : List ℕ) → chain r s l R .loss ≡ false
+pub chain-through : (r s : Ruling) (l R : List ℕ) → chain r s l R .loss ≡ false
     → (r l R .loss ≡ false) × (s (r l R .list) (r l R .why) .loss ≡ false) × (chain r s l R .list ≡ s (r l R .list) (r l R .why) .list)
 unfolding chain
 chain-through r s l R e = go (r l R .loss) refl e
@@ -259,25 +260,28 @@ module _ (P : Problem) where
           let f : getD (nextList P (after P S c p l R) (length p) a) x 0 ≡ 2 ^ getD (p ++ (a ∷ [])) x 0 = ap (λ (z : List ℕ). getD (nextList P z (length p) a) x 0) (sym r) ∙ q in
           single-only (nextList P (after P S c p l R) (length p) a) x (getD (p ++ (a ∷ [])) x 0) b f y
 
+  -- A value goes with each of a domain that it clashes with none of.
+  pub unclashed-goes : (D : Domains) (x a y b : ℕ) → b < 16 → T (D y b) → clashes P D x a y ≡ false → T (compatible x a y b)
+  unfolding clashes
+  unclashed-goes D x a y b lb at-y e =
+      test (compatible x a y b) (λ t. t) (λ f. absurd (clash e (some-in 16 (D y) (λ v. not (compatible x a y v)) b lb at-y (true-holds (ap not f)))))
+
   -- The values of two variables that have no others, where the later has no effect on the earlier.
   quiet-goes : (D : Domains) (x a y b : ℕ) → x < y → a < 16 → b < 16 → T (D x a) → T (D y b) → ((v : ℕ) → T (D y v) → v ≡ b) → Quiet D x y → T (compatible x a y b)
-  unfolding kills barred clashes alone
+  unfolding kills barred alone
   quiet-goes D x a y b h la lb at-x at-y only q = test (constrained x y) near (λ f. free x y f a b)
     where
-      unclashed : clashes P D x a y ≡ false → T (compatible x a y b)
-      unclashed e = test (compatible x a y b) (λ t. t) (λ f. absurd (clash e (some-in 16 (D y) (λ v. not (compatible x a y v)) b lb at-y (true-holds (ap not f)))))
-
       joined : alone P D x a y ≡ false → T (compatible x a y b)
       joined e =
           let r = some-out 16 (D y) (λ v. compatible x a y v) (true-holds (not-false (some 16 (D y) (λ v. compatible x a y v)) e)) in
           subst (λ (v : ℕ). T (compatible x a y v)) (only (r .0) (r .2)) (r .3)
 
       lived : (j : Bool) → cond (j && ltb x y) (clashes P D x a y) (alone P D x a y) ≡ false → T (compatible x a y b)
-      lived true e = unclashed (rw (lt-ltb x y h) at e)
+      lived true e = unclashed-goes D x a y b lb at-y (rw (lt-ltb x y h) at e)
       lived false e = joined e
 
       unbarred : (j : Bool) → cond j (clashes P D x a y) (ltb x y && alone P D x a y) ≡ false → T (compatible x a y b)
-      unbarred true e = unclashed e
+      unbarred true e = unclashed-goes D x a y b lb at-y e
       unbarred false e = joined (rw (lt-ltb x y h) at e)
 
       near : T (constrained x y) → T (compatible x a y b)
@@ -286,10 +290,9 @@ module _ (P : Problem) where
   -- So a play of all variables below another turn breaks no constraint, where the rule set has rule 1.
   pub turn-unbroken : (S : ℕ) (p₀ : List ℕ) → T (legal P p₀) → (c : ℕ) (p l R : List ℕ) → TurnOf P S p₀ c p l R → uses S 1 ≡ true → ¬ (c ≡ 0) → length p ≡ n
       → T (satisfied compatible n (playOf p))
-  unfolding satisfied playOf domains
+  unfolding playOf domains
   turn-unbroken S p₀ t c p l R tu one z e =
-      each-in n (λ y. true) (λ y. each y (λ x. true) (λ x. compatible x (getD p x 0) y (getD p y 0))) λ y ly _.
-      each-in y (λ x. true) (λ x. compatible x (getD p x 0) y (getD p y 0)) λ x lx _.
+      satisfied-in compatible n (playOf p) λ y x ly lx.
       quiet-goes (domains l) x (getD p x 0) y (getD p y 0) lx (small x (omega arith)) (small y ly) (own x (omega arith)) (own y ly)
       (λ v. single-only l y (getD p y 0) v (at .played y (omega arith))) (turn-quiet S p₀ t c p l R tu one z x y (omega arith) ly (λ _ _. omega arith))
     where

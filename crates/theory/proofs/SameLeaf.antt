@@ -14,7 +14,7 @@ use Rattle.game.specs.Lists.{domains}
 use Rattle.game.specs.Rule.{uses}
 use Rattle.game.specs.Turn.{nextList}
 use Rattle.game.specs.Reasons.{nextReasons, Step, explained}
-use Rattle.game.specs.Search.{Ending, solved, failed, is-solved, or-else, and-also, handUp, someValue, untried, eachValue, leaf, skippable, narrowNext, startSet, search}
+use Rattle.game.specs.Search.{Ending, solved, failed, is-solved, or-else, and-also, handUp, someValue, untried, eachValue, checkSet, leaf, skippable, narrowNext, startSet, search}
 use Rattle.game.specs.Turns.{turnBelow}
 use Rattle.theory.specs.OtherSets.{Others}
 use Rattle.theory.proofs.TurnLists.{snoc-length}
@@ -99,6 +99,10 @@ module _ (P : Problem) where
   unfolding explained
   same-explained S U c p l R h = rw (h 1 (omega arith) (omega arith), h 2 (omega arith) (omega arith), h 3 (omega arith) (omega arith))
 
+  same-check : (S U c : ℕ) (p l R : List ℕ) → Others S U → checkSet P S c p l R ≡ checkSet P U c p l R
+  unfolding checkSet
+  same-check S U c p l R h = rw (h 2 (omega arith) (omega arith))
+
   same-narrow : (S U i : ℕ) (l : List ℕ) → Others S U → narrowNext P S i l ≡ narrowNext P U i l
   unfolding narrowNext
   same-narrow S U i l h = rw (h 4 (omega arith) (omega arith), h 5 (omega arith) (omega arith))
@@ -133,7 +137,7 @@ module _ (P : Problem) where
   pub same-leaf : (k S U : ℕ) → Others S U → (c : ℕ) (p l R : List ℕ) → k + length p ≡ n → At P c p l R → (q : List ℕ) → search P S c k p l R ≡ solved q → search P U c k p l R ≡ solved q
   unfolding search inner
   same-leaf zero S U h c p l R z w q e =
-      handUp-in (uses U 6) (length p) (leaf P (explained P U c p l R .loss) p) q (rw (same-explained S U c p l R h) at (handUp-out (uses S 6) (length p) (leaf P (explained P S c p l R .loss) p) q e))
+      handUp-in (uses U 6) (length p) (leaf P (explained P U c p l R .loss) (checkSet P U c p l R) p) q (rw (same-explained S U c p l R h, same-check S U c p l R h) at (handUp-out (uses S 6) (length p) (leaf P (explained P S c p l R .loss) (checkSet P S c p l R) p) q e))
   same-leaf (suc k) S U h c p l R z w q e = go (same-leaf k S U h) (same-leaf k U S (λ k l ne. sym (h k l ne)))
     where
       i : ℕ

@@ -23,7 +23,7 @@ use Rattle.game.specs.Position.{playOf, legal, position, placed}
 use Rattle.game.specs.Rule.{uses}
 use Rattle.game.specs.Turn.{firstList, nextList}
 use Rattle.game.specs.Reasons.{firstReasons, nextReasons, Step, explained}
-use Rattle.game.specs.Search.{Ending, solved, failed, someValue, eachValue, leaf, skippable, narrowNext, startSet, search}
+use Rattle.game.specs.Search.{Ending, solved, failed, someValue, eachValue, checkSet, leaf, skippable, narrowNext, startSet, search}
 use Rattle.theory.proofs.Transfer
 use Rattle.theory.proofs.Transfer.{In, Inside}
 use Rattle.theory.proofs.Swap.{start}
@@ -237,14 +237,14 @@ module _ (P : Problem) where
   -- THE LAW OF THE SEARCH.
   pub search-fine : (S c k : ℕ) (p l R : List ℕ) → c ≤ length p → k + length p ≡ n → Entry p l R → Fine P F (domains l) (length p) (playOf p) (search P S c k p l R)
   unfolding search
-  search-fine S c zero p l R lc z w = Values.handUp-fine P (uses S 6) F (domains l) (length p) (playOf p) (leaf P (explained P S c p l R .loss) p) played-out
+  search-fine S c zero p l R lc z w = Values.handUp-fine P (uses S 6) F (domains l) (length p) (playOf p) (leaf P (explained P S c p l R .loss) (checkSet P S c p l R) p) played-out
     where
-      played-out : Fine P F (domains l) (length p) (playOf p) (leaf P (explained P S c p l R .loss) p)
+      played-out : Fine P F (domains l) (length p) (playOf p) (leaf P (explained P S c p l R .loss) (checkSet P S c p l R) p)
       played-out =
           let z : length p ≡ n = omega arith in
           let h : Sound P (length p) (playOf p) (domains l) (record { loss = explained P S c p l R .loss; dom = domains (explained P S c p l R .list) }) = just S c p l R lc w .verdict in
-          subst (λ (i : ℕ). Fine P F (domains l) i (playOf p) (leaf P (explained P S c p l R .loss) p)) (sym z)
-          (Values.leaf-fine P F (domains l) p (record { loss = explained P S c p l R .loss; dom = domains (explained P S c p l R .list) }) z (rw z at (w .ready .state)) (rw z at h))
+          subst (λ (i : ℕ). Fine P F (domains l) i (playOf p) (leaf P (explained P S c p l R .loss) (checkSet P S c p l R) p)) (sym z)
+          (Values.leaf-fine P F (domains l) p (record { loss = explained P S c p l R .loss; dom = domains (explained P S c p l R .list) }) (checkSet P S c p l R) z (rw z at (w .ready .state)) (rw z at h))
   search-fine S c (suc k) p l R lc z w = Values.handUp-fine P (uses S 6) F (domains l) i (playOf p) _ (go (o .loss) refl (search-fine S i k))
     where
       i : ℕ

@@ -24,9 +24,9 @@ use Rattle.game.specs.Forward.{forwardDomains, forwardLoss, forward, forwardNam
 use Rattle.game.specs.LookAhead.{aheadLoss, lookAhead, aheadNamed}
 use Rattle.game.specs.Pure.{lowest, isPure, purged, purge}
 use Rattle.game.specs.Interchangeable.{interchange, representatives, interchangeable, represent}
-use Rattle.game.specs.Turn.{firstList, nextList, checks, ahead, narrowPure, narrowInterchangeable, nextRules, reached}
+use Rattle.game.specs.Turn.{firstList, nextList, checks, checksNamed, turnNamed, ahead, narrowPure, narrowInterchangeable, nextRules, reached}
 use Rattle.game.specs.Reasons.{firstReasons, nextReasons, idle, chain, choose, loop, Sheet, neighbours, forwardConflict, forwardReasons, explainForward, explainChecks, kills, cause, surviving, revise, pass, sameDomains, passes, revisions, emptied, against, arcConflict, explainArc, explainAhead, explained}
-use Rattle.game.specs.Search.{Ending, solved, failed, is-solved, handed, handUp, someValue, untried, eachValue, broken, firstBroken, leaf, solid, around, skippable, narrowNext, startSet, search, searchFrom, markedValues}
+use Rattle.game.specs.Search.{Ending, solved, failed, is-solved, handed, handUp, someValue, untried, eachValue, broken, firstBroken, checkSet, leaf, solid, around, skippable, narrowNext, startSet, search, searchFrom, markedValues}
 use Rattle.game.specs.Turns.{TurnOf, first, below}
 use Rattle.game.specs.Skipping.{skippingTurn}
 use Rattle.theory.specs.OtherSets.{Others}
@@ -56,7 +56,7 @@ unfolding turns firstReasons nextReasons idle chain choose loop neighbours forwa
 reasons = tt
 
 searching : Unit {0}
-unfolding reasons handed handUp someValue untried eachValue broken firstBroken leaf solid around skippable narrowNext startSet search searchFrom markedValues
+unfolding reasons handed handUp someValue untried eachValue broken firstBroken checkSet leaf solid around skippable narrowNext startSet search searchFrom markedValues
 searching = tt
 
 -- THE PROBLEM THAT BREAKS LEANER REASONS ------------------------------------------------------------------------------------------
@@ -238,10 +238,36 @@ far-whole : (j : ℕ) → j < 2 → T (bit 3 j)
 unfolding searchFrom legal each domains bit uses
 far-whole = Theorems.turn-conflict-whole far 0 (0 ∷ 0 ∷ []) tt 0 (0 ∷ 0 ∷ []) (firstList far (0 ∷ 0 ∷ [])) (firstReasons 3 2) first 3 (far-sets .1) refl
 
--- A lost leaf names its first broken table.
-k-leaf : search K 127 0 0 twice (firstList K twice) (firstReasons 5 5) ≡ failed 9
+-- A lost leaf carries its first broken table; in a first turn with rule 2 also the conflict set of that rule. It names variable 3, and the two
+-- variables of the table, 0 and 3, would leave out the others that share a table with it.
+k-leaf : search K 127 0 0 twice (firstList K twice) (firstReasons 5 5) ≡ failed 31
 unfolding searching
 k-leaf = Theorems.turn-leaf K 127 twice tt 0 twice (firstList K twice) (firstReasons 5 5) first refl
+
+k-named : (turnNamed K 127 0 twice (firstList K twice) ≡ 3) × T (K .constrained 3 1) × (bit (firstBroken K twice) 1 ≡ false)
+unfolding searching checksNamed turnNamed
+k-named = (refl, tt, refl)
+
+k-names : T (bit 31 1)
+unfolding searching checksNamed turnNamed
+k-names = Theorems.turn-names K 127 twice tt 0 twice (firstList K twice) (firstReasons 5 5) first 31 k-leaf (omega arith) 1 (omega arith) tt
+
+k-has-name : turnNamed K 127 0 twice (firstList K twice) < 5
+unfolding searching
+k-has-name = Theorems.turn-named K 127 twice tt 0 twice (firstList K twice) (firstReasons 5 5) first refl (λ f. absurd (clash f tt))
+
+k-name-lost : reached K 127 0 twice (firstList K twice) .loss ≡ true
+unfolding legal each domains bit
+k-name-lost = Theorems.turn-named-lost K 127 twice tt 0 twice (firstList K twice) (firstReasons 5 5) first k-has-name
+
+-- Below another turn it carries that table alone: 0, 0, 0 at the problem far.
+far-leaf-turn : TurnOf far 32 [] 2 (0 ∷ 0 ∷ 0 ∷ []) (1 ∷ 1 ∷ 1 ∷ []) (1 ∷ 2 ∷ 4 ∷ [])
+unfolding searching
+far-leaf-turn = below 0 (below 0 far-turn (omega arith) refl tt) (omega arith) refl tt
+
+far-leaf : search far 32 2 0 (0 ∷ 0 ∷ 0 ∷ []) (1 ∷ 1 ∷ 1 ∷ []) (1 ∷ 2 ∷ 4 ∷ []) ≡ failed 5
+unfolding searching
+far-leaf = Theorems.turn-leaf-below far 32 [] tt 2 (0 ∷ 0 ∷ 0 ∷ []) (1 ∷ 1 ∷ 1 ∷ []) (1 ∷ 2 ∷ 4 ∷ []) far-leaf-turn refl (omega arith)
 
 k-first-broken : (x y : ℕ) × (x < y) × (y < 5) × (K .compatible x (getD twice x 0) y (getD twice y 0) ≡ false) × (firstBroken K twice ≡ bitOr (2 ^ x) (2 ^ y))
     × ((i j : ℕ) → i < j → j < 5 → (i < x) ⊎ ((i ≡ x) × (j < y)) → T (K .compatible i (getD twice i 0) j (getD twice j 0)))

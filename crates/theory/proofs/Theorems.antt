@@ -11,7 +11,7 @@ use lib.Dec.{T, eqb, ltb}
 use lib.Count.{ones}
 use lib.ListN.{getD, length, set}
 use mathlib.Core.Logic.{_⊎_}
-use lib.Bits.{bitOr}
+use lib.Bits.{bitOr, or-zero-r}
 use Rattle.mask.specs.Range.{first}
 use Rattle.mask.specs.Mask.{bit, diff, maskOf}
 use Rattle.mask.proofs.Logic.{holds, test}
@@ -29,9 +29,9 @@ use Rattle.game.specs.Forward.{forwardFails, forward, forwardNamed}
 use Rattle.game.specs.LookAhead.{lookAhead, aheadNamed}
 use Rattle.game.specs.Pure.{pure, purge}
 use Rattle.game.specs.Interchangeable.{interchangeable, represent}
-use Rattle.game.specs.Turn.{firstList, nextList, reached}
+use Rattle.game.specs.Turn.{firstList, nextList, checks, reached, turnNamed}
 use Rattle.game.specs.Reasons.{Sheet, idle, chain, choose, explainChecks, arcConflict, explained}
-use Rattle.game.specs.Search.{Ending, solved, failed, is-solved, handed, handUp, firstBroken, skippable, narrowNext, search, searchFrom, markedValues}
+use Rattle.game.specs.Search.{Ending, solved, failed, is-solved, handed, handUp, firstBroken, checkSet, skippable, narrowNext, search, searchFrom, markedValues}
 use Rattle.game.specs.Turns.{TurnOf, first as from-position, turnBelow}
 use Rattle.game.specs.Skipping.{skippingTurn}
 use Rattle.theory.specs.TurnList.{AtTurn}
@@ -49,6 +49,8 @@ use Rattle.theory.proofs.Values
 use Rattle.theory.proofs.Standing.{legal-snoc}
 use Rattle.theory.proofs.Turns
 use Rattle.theory.proofs.Turns.{At, turn-at}
+use Rattle.theory.proofs.Named
+use Rattle.theory.proofs.LastChecks
 use Rattle.theory.proofs.SameLeaf
 
 module _ (P : Problem) where
@@ -201,7 +203,7 @@ off-changes-nothing r = (Sets.off-is-none r, Sets.none-first r, Sets.none-last r
 
 -- THE SEARCH ----------------------------------------------------------------------------------------------------------------------
 module _ (P : Problem) where
-  open Problem P using (n, universal, compatible)
+  open Problem P using (n, universal, compatible, constrained)
 
   -- EVERY TURN that a search under S from the plays p₀ may come to -------------------------------------------------------------
   module _ (S : ℕ) (p₀ : List ℕ) (start : T (legal P p₀)) (c : ℕ) (p l R : List ℕ) (turn : TurnOf P S p₀ c p l R) where
@@ -258,9 +260,29 @@ module _ (P : Problem) where
     pub turn-conflict-whole : (U : ℕ) → answer ≡ failed U → uses S 6 ≡ false → (j : ℕ) → j < i → T (bit U j)
     turn-conflict-whole U e = Turns.set-whole P S c (n - length p) p l R U e
 
-    -- "A lost leaf carries the two choices of its first broken table", whatever rule found the loss; where none is broken the leaf is won.
-    pub turn-leaf : i ≡ n → search P S c 0 p l R ≡ cond (satisfied compatible n (playOf p)) (solved p) (failed (handed (uses S 6) n (firstBroken P p)))
+    -- Card 2: "On either loss in a turn, the jump set holds at least the played choices that share a table with the choice named": `turnNamed` is the
+    -- variable that the loss of rule 2 or of rule 3 names, n where neither finds it.
+    pub turn-names : (U : ℕ) → answer ≡ failed U → turnNamed P S c p l < n → (j : ℕ) → j < i → T (constrained (turnNamed P S c p l) j) → T (bit U j)
+    turn-names U e h j k t = Named.turn-names P S c p l R on (n - length p) U j left e h k t
+
+    -- A loss of the turn has a name unless rule 1 finds it; without a loss nothing is named.
+    pub turn-named : reached P S c p l .loss ≡ true
+        → (let two = ifSo (uses S 2) (checks P (i - c) c p) l in two .loss ≡ false → ifSo (uses S 1) (arc P) (two .list) .loss ≡ false) → turnNamed P S c p l < n
+    turn-named = Named.turn-named P S c p l
+
+    pub turn-named-lost : turnNamed P S c p l < n → reached P S c p l .loss ≡ true
+    turn-named-lost = Named.named-lost P S c p l
+
+    -- "A lost leaf carries the two choices of its first broken table", whatever rule found the loss; where rule 2 did, its conflict set too. Where
+    -- none is broken the leaf is won.
+    pub turn-leaf : i ≡ n → search P S c 0 p l R ≡ cond (satisfied compatible n (playOf p)) (solved p) (failed (handed (uses S 6) n (bitOr (firstBroken P p) (checkSet P S c p l R))))
     turn-leaf e = Turns.answer-end P S c p l R e on
+
+    -- Below another turn the leaf carries these two alone: the last play has no later variable that rule 2 could lose at.
+    pub turn-leaf-below : i ≡ n → n ≤ suc c → search P S c 0 p l R ≡ cond (satisfied compatible n (playOf p)) (solved p) (failed (handed (uses S 6) n (firstBroken P p)))
+    turn-leaf-below e h =
+        turn-leaf e ∙ ap (λ U. cond (satisfied compatible n (playOf p)) (solved p) (failed (handed (uses S 6) n U)))
+        (ap (bitOr (firstBroken P p)) (LastChecks.late-none P S c p l R h) ∙ or-zero-r (firstBroken P p))
 
     -- Where none is broken the rules find no loss and change nothing.
     pub turn-leaf-list : i ≡ n → T (satisfied compatible n (playOf p)) → (reached P S c p l .loss ≡ false) × (list ≡ l)

@@ -22,7 +22,7 @@ use Rattle.game.specs.Turn.{firstList, nextList, reached}
 use Rattle.game.specs.Arc.{arcLoss, arc}
 use Rattle.game.specs.Removals.{NoneDead}
 use Rattle.game.specs.Reasons.{choose, explainChecks, Step, Sheet, arcConflict, firstReasons, nextReasons, explained}
-use Rattle.game.specs.Search.{Ending, solved, failed, is-solved, or-else, handed, handUp, someValue, eachValue, firstBroken, leaf, skippable, narrowNext, startSet, search}
+use Rattle.game.specs.Search.{Ending, solved, failed, is-solved, or-else, handed, handUp, someValue, eachValue, firstBroken, checkSet, leaf, skippable, narrowNext, startSet, search}
 use Rattle.game.specs.Turns.{TurnOf, first, below, turnBelow}
 use Rattle.game.specs.Skipping.{shown, skippingTurn}
 use Rattle.theory.specs.TurnList.{AtTurn}
@@ -193,15 +193,15 @@ module _ (P : Problem) where
 
   -- A leaf is decided by its constraints, also where a rule found a loss.
   pub answer-end : (S c : ℕ) (p l R : List ℕ) → length p ≡ n → At c p l R
-      → search P S c 0 p l R ≡ cond (satisfied compatible n (playOf p)) (solved p) (failed (handed (uses S 6) n (firstBroken P p)))
+      → search P S c 0 p l R ≡ cond (satisfied compatible n (playOf p)) (solved p) (failed (handed (uses S 6) n (bitOr (firstBroken P p) (checkSet P S c p l R))))
   unfolding search handUp
   answer-end S c p l R z w =
       let h : Sound P n (playOf p) (domains l) (record { loss = explained P S c p l R .loss; dom = domains (explained P S c p l R .list) }) =
       rw z at (Search.just P S c p l R (w .checked) (w .entry) .verdict) in
-      rw (Values.leaf-is P p (domains l) (record { loss = explained P S c p l R .loss; dom = domains (explained P S c p l R .list) }) (rw z at (w .entry .ready .state)) h, z)
+      rw (Values.leaf-is P p (domains l) (record { loss = explained P S c p l R .loss; dom = domains (explained P S c p l R .list) }) (checkSet P S c p l R) (rw z at (w .entry .ready .state)) h, z)
       (go (satisfied compatible n (playOf p)))
     where
-      go : (b : Bool) → handUp (uses S 6) n (cond b (solved p) (failed (firstBroken P p))) ≡ cond b (solved p) (failed (handed (uses S 6) n (firstBroken P p)))
+      go : (b : Bool) → handUp (uses S 6) n (cond b (solved p) (failed (bitOr (firstBroken P p) (checkSet P S c p l R)))) ≡ cond b (solved p) (failed (handed (uses S 6) n (bitOr (firstBroken P p) (checkSet P S c p l R))))
       go true = refl
       go false = refl
 
@@ -210,8 +210,8 @@ module _ (P : Problem) where
   unfolding search leaf handUp
   leaf-calm S c p l R z w = go (explained P S c p l R .loss) (satisfied compatible n (playOf p)) (ap is-solved (answer-end S c p l R z w))
     where
-      go : (b s : Bool) → is-solved (handUp (uses S 6) (length p) (cond (not b && s) (solved p) (failed (firstBroken P p))))
-          ≡ is-solved (cond s (solved p) (failed (handed (uses S 6) n (firstBroken P p)))) → T s → b ≡ false
+      go : (b s : Bool) → is-solved (handUp (uses S 6) (length p) (cond (not b && s) (solved p) (failed (bitOr (firstBroken P p) (checkSet P S c p l R)))))
+          ≡ is-solved (cond s (solved p) (failed (handed (uses S 6) n (bitOr (firstBroken P p) (checkSet P S c p l R))))) → T s → b ≡ false
       go false s e t = refl
       go true true e t = absurd (subst (λ b. T b) (sym e) tt)
 

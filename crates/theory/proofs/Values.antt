@@ -243,25 +243,26 @@ module _ (P : Problem) where
   pub leaf-game : (p : Play) (D : Domains) → State P n p D → start P D ≡ satisfied compatible n p
   leaf-game p D s = start-at P D n p (omega arith) (s .played) ∙ Transfer.from-end n universal (satisfied compatible n) D p
 
-  pub leaf-is : (p : List ℕ) (D : Domains) (o : Outcome) → State P n (playOf p) D → Sound P n (playOf p) D o
-      → leaf P (o .loss) p ≡ cond (satisfied compatible n (playOf p)) (solved p) (failed (firstBroken P p))
+  pub leaf-is : (p : List ℕ) (D : Domains) (o : Outcome) (U : ℕ) → State P n (playOf p) D → Sound P n (playOf p) D o
+      → leaf P (o .loss) U p ≡ cond (satisfied compatible n (playOf p)) (solved p) (failed (bitOr (firstBroken P p) U))
   unfolding leaf
-  leaf-is p D o s h = go (o .loss) refl (satisfied compatible n (playOf p)) refl
+  leaf-is p D o U s h = go (o .loss) refl (satisfied compatible n (playOf p)) refl
     where
-      go : (b : Bool) → o .loss ≡ b → (c : Bool) → satisfied compatible n (playOf p) ≡ c → cond (not b && c) (solved p) (failed (firstBroken P p)) ≡ cond c (solved p) (failed (firstBroken P p))
+      go : (b : Bool) → o .loss ≡ b → (c : Bool) → satisfied compatible n (playOf p) ≡ c → cond (not b && c) (solved p) (failed (bitOr (firstBroken P p) U)) ≡ cond c (solved p) (failed (bitOr (firstBroken P p) U))
       go true e true q = let z : satisfied compatible n (playOf p) ≡ false = sym (leaf-game (playOf p) D s) ∙ (rw e at (h .law)) in absurd (clash z (rw q tt))
       go true e false q = refl
       go false e c q = refl
 
-  pub leaf-fine : (F D : Domains) (p : List ℕ) (o : Outcome) → length p ≡ n → State P n (playOf p) D → Sound P n (playOf p) D o → Fine F D n (playOf p) (leaf P (o .loss) p)
+  pub leaf-fine : (F D : Domains) (p : List ℕ) (o : Outcome) (U : ℕ) → length p ≡ n → State P n (playOf p) D → Sound P n (playOf p) D o → Fine F D n (playOf p) (leaf P (o .loss) U p)
   unfolding playOf
-  leaf-fine F D p o z s h = rw (leaf-is p D o s h) (go (satisfied compatible n (playOf p)) refl)
+  leaf-fine F D p o U z s h = rw (leaf-is p D o U s h) (go (satisfied compatible n (playOf p)) refl)
     where
-      go : (c : Bool) → satisfied compatible n (playOf p) ≡ c → Fine F D n (playOf p) (cond c (solved p) (failed (firstBroken P p)))
+      go : (c : Bool) → satisfied compatible n (playOf p) ≡ c → Fine F D n (playOf p) (cond c (solved p) (failed (bitOr (firstBroken P p) U)))
       go true q = (rw (leaf-game (playOf p) D s, q) tt, z, (λ j l. s .played j l .0), (λ j l. refl), rw q tt)
       go false q =
           let b = firstBroken-is p q in
           let x = b .0 in
           let y = b .1 in
-          conflict-leaf P F (bit (firstBroken P p)) x y (playOf p) (let h = b .2 in let k = b .3 in omega arith) (b .3) (let h = b .2 in omega arith)
-          (rw (b .5) (in-left (2 ^ x) (2 ^ y) x (rw (bit-single x x) (eqb-refl x)))) (rw (b .5) (in-right (2 ^ x) (2 ^ y) y (rw (bit-single y y) (eqb-refl y)))) (b .4)
+          conflict-leaf P F (bit (bitOr (firstBroken P p) U)) x y (playOf p) (let h = b .2 in let k = b .3 in omega arith) (b .3) (let h = b .2 in omega arith)
+          (in-left (firstBroken P p) U x (rw (b .5) (in-left (2 ^ x) (2 ^ y) x (rw (bit-single x x) (eqb-refl x)))))
+          (in-left (firstBroken P p) U y (rw (b .5) (in-right (2 ^ x) (2 ^ y) y (rw (bit-single y y) (eqb-refl y))))) (b .4)

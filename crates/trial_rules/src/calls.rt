@@ -1,6 +1,8 @@
 // One of the five calls on the first n masks of a list, by the number of its rule.
 ghost use Prim.Native.Nat.{_≤_};
 ghost use lib.ListN.{length};
+use crate::answers::checked;
+use crate::answers::looked;
 use crate::answers::ruled;
 use crate::answers::values;
 use rule_entries::arc;
@@ -15,13 +17,13 @@ fn rewritten(rule: usize, f: &[u8], list: &mut [u16], x: usize, a: usize) -> Ans
     if rule == 1 {
         return ruled(arc(f, list));
     }
-    ruled(forward_check(f, list, x, a))
+    checked(forward_check(f, list, x, a))
 }
 
 // The rules that only reply.
 fn replied(rule: usize, f: &[u8], list: &[u16], x: usize) -> Answer {
     if rule == 3 {
-        return ruled(look_ahead(f, list, x));
+        return looked(look_ahead(f, list, x));
     }
     if rule == 4 {
         return values(pure(f, list, x));

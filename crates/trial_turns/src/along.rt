@@ -1,5 +1,5 @@
-// The conflict set that the rules find after some plays, when the rules of every turn above have run. A search from the position
-// itself starts anew: its plays are their own reasons from the first turn on.
+// What the rules say after some plays, when the rules of every turn above have run. A search from the position itself starts anew: its
+// plays are their own reasons from the first turn on.
 ghost use mathlib.Core.Path.{_≡_};
 ghost use mathlib.Core.Bool.{true};
 ghost use Prim.Native.Nat.{_≤_, _<_};
@@ -12,6 +12,7 @@ use mask::single_32;
 use position::Position;
 use rule_set::Chosen;
 use rule_set::RuleSet;
+use search_rules::Said;
 use search_rules::Setting;
 use search_rules::run_rules;
 use solver_arrays::Index;
@@ -48,8 +49,16 @@ fn all_some(n: usize, w: &Words) -> bool
     true
 }
 
-// The rules of the turn after d plays, and the conflict set of their loss; 0 where d is no number of plays or a domain is empty. All
-// plays are checked again, which changes nothing.
+fn nothing() -> Said {
+    Said {
+        loss: false,
+        conflict: 0,
+        narrowed: 0,
+    }
+}
+
+// The rules of the turn after d plays; nothing where d is no number of plays or a domain is empty. All plays are checked again, which
+// changes nothing.
 fn ruled(
     near: &Near,
     index: &Index,
@@ -58,11 +67,11 @@ fn ruled(
     set: RuleSet,
     d: usize,
     w: &mut Words,
-) -> u32
+) -> Said
     requires { ⌜ (v .n ≤ 32) × InRange (now index) × Stated (v .n) (v .universal) (now near) (now index) (now rows) ⌝ }
 {
     if v.n < d {
-        return 0;
+        return nothing();
     }
     if all_some(v.n, w) {
         let g = Setting {
@@ -70,9 +79,9 @@ fn ruled(
             universal: v.universal,
             set: set,
         };
-        return run_rules(near, index, rows, g, 0, d, w).conflict;
+        return run_rules(near, index, rows, g, 0, d, w);
     }
-    0
+    nothing()
 }
 
 // Value a of variable d is played, and d is its own reason.
@@ -89,14 +98,14 @@ fn at_most_31(d: usize) -> usize
     if d < 31 { d } else { 31 }
 }
 
-fn conflict_in(
+fn ruled_in(
     near: &Near,
     index: &Index,
     rows: &Rows,
     v: Variables,
     set: RuleSet,
     p: Position,
-) -> u32
+) -> Said
     requires { ⌜ (v .n ≤ 32) × InRange (now index) × Stated (v .n) (v .universal) (now near) (now index) (now rows) ⌝ }
 {
     let plays = at_most_31(p.plays);
@@ -112,24 +121,24 @@ fn conflict_in(
     ruled(near, index, rows, v, set, d, &mut w)
 }
 
-// The conflict set after the plays of p, in a search from the start under this set; 0 where no loss is found.
-fn conflict_under(f: &[u8], p: Position, set: RuleSet) -> u32 {
+// The rules of the turn after the plays of p, in a search from the start under this set; nothing where the file is refused.
+fn ruled_under(f: &[u8], p: Position, set: RuleSet) -> Said {
     let mut near = [0u32; 32];
     let mut index = [0u16; 1024];
     let mut rows = [0u16; ROWS];
     let r = decode(f, &mut near, &mut index, &mut rows);
     if r.refused {
-        return 0;
+        return nothing();
     }
     let v = r.variables;
-    conflict_in(&near, &index, &rows, v, set, p)
+    ruled_in(&near, &index, &rows, v, set, p)
 }
 
 // The same under the set of this number.
-pub fn conflict_along(f: &[u8], p: Position, set: usize) -> u32 {
+pub fn ruled_along(f: &[u8], p: Position, set: usize) -> Said {
     let c = RuleSet::new(set);
     match c {
-        Chosen::Refused(_) => 0,
-        Chosen::Set(s) => conflict_under(f, p, s),
+        Chosen::Refused(_) => nothing(),
+        Chosen::Set(s) => ruled_under(f, p, s),
     }
 }

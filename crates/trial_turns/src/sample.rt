@@ -3,7 +3,7 @@
 // (variable.value) 0.1-3.2, 1.0-2.0, 1.1-3.0, 2.1-3.2, 2.1-4.1, 3.1-4.0. The plays 0, 1, 1 lose and 0, 0, 1 win, so the conflict set
 // of the loss must hold variable 1.
 ghost use Prim.Native.Nat.{_<_};
-use crate::along::conflict_along;
+use crate::along::ruled_along;
 use crate::searches::is_won;
 use crate::searches::searched;
 use position::Position;
@@ -94,7 +94,7 @@ fn blames_one(f: &[u8], set: usize) -> bool {
     let other = searched(f, after(0), set);
     let found = both(
         holds_one(r.conflict),
-        holds_one(conflict_along(f, after(1), set)),
+        holds_one(ruled_along(f, after(1), set).conflict),
     );
     let first = r.judged;
     let second = other.judged;

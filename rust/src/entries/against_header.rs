@@ -55,7 +55,7 @@ macro_rules! layout {
 #[test]
 fn structs_as_declared() {
     let header = structs(&code());
-    let ours: [(&str, Layout); 14] = [
+    let ours: [(&str, Layout); 16] = [
         ("kb_position", layout!(Position: plays, values)),
         ("kb_reading", layout!(Reading: answer.kind, answer.number, answer.place, n, m, universal, given, rules, domains)),
         ("kb_found", layout!(Found: answer.kind, answer.number, answer.place, found, rows)),
@@ -67,6 +67,8 @@ fn structs_as_declared() {
         ("kb_marks", layout!(Marks: answer.kind, answer.number, answer.place, winning, domain)),
         ("kb_replayed", layout!(Replayed: marks, opened)),
         ("kb_ruled", layout!(Ruled: answer.kind, answer.number, answer.place, lost)),
+        ("kb_checked", layout!(Checked: answer.kind, answer.number, answer.place, lost, variable)),
+        ("kb_looked", layout!(Looked: answer.kind, answer.number, answer.place, lost, value, variable)),
         ("kb_values", layout!(Values: answer.kind, answer.number, answer.place, values)),
         ("kb_searched", layout!(Searched: answer.kind, answer.number, answer.place, won, loss, conflict, list, leaf)),
         ("kb_formula_judgement", layout!(FormulaJudgement: answer.kind, answer.number, answer.place, won, length)),

@@ -41,8 +41,8 @@ fn empty_file_with_any_pointer() {
             let opened = Opened { answer, ..Default::default() };
             assert_eq!(kb_replay(file, 0, file, 0, 256), Replayed { marks: Marks { answer, ..Default::default() }, opened });
             assert_eq!(kb_arc(file, 0, words, 3), Ruled { answer, lost: 0 });
-            assert_eq!(kb_forward_check(file, 0, words, 3, 9, 99), Ruled { answer, lost: 0 });
-            assert_eq!(kb_look_ahead(file, 0, words, 3, 9), Ruled { answer, lost: 0 });
+            assert_eq!(kb_forward_check(file, 0, words, 3, 9, 99), Checked { answer, ..Default::default() });
+            assert_eq!(kb_look_ahead(file, 0, words, 3, 9), Looked { answer, ..Default::default() });
             assert_eq!(kb_pure(file, 0, words, 3, 9), Values { answer, values: 0 });
             assert_eq!(kb_interchangeable(file, 0, words, 3, 9), Values { answer, values: 0 });
             assert_eq!(kb_formula(file, 0, bytes, 3), Written { answer, length: 0 });
@@ -81,8 +81,9 @@ fn refused_calls_with_any_pointer() {
             (opened.masks[0], opened.counts[0]) = (32, 1);
             assert_eq!(replayed.opened, opened);
             assert_eq!(kb_arc(file, length, words, 0), Ruled { answer: refused(1, 13), lost: 0 });
-            assert_eq!(kb_forward_check(file, length, words, 0, 0, 5), Ruled { answer: refused(1, 13), lost: 0 });
-            assert_eq!(kb_look_ahead(file, length, words, 0, 0), Ruled { answer: refused(1, 13), lost: 0 });
+            let checked = Checked { answer: refused(1, 13), ..Default::default() };
+            assert_eq!(kb_forward_check(file, length, words, 0, 0, 5), checked);
+            assert_eq!(kb_look_ahead(file, length, words, 0, 0), Looked { answer: refused(1, 13), ..Default::default() });
             assert_eq!(kb_pure(file, length, words, 0, 0), Values { answer: refused(1, 13), values: 0 });
             assert_eq!(kb_interchangeable(file, length, words, 0, 0), Values { answer: refused(1, 13), values: 0 });
             assert_eq!(kb_report(file, length, bytes, 0), Written { answer: refused(1, 12), length: 0 });

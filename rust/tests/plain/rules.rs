@@ -70,25 +70,27 @@ impl Problem {
         })
     }
 
-    /// Rule 2: whether it is a loss. The list is left as checked.
-    pub fn forward_check(&self, list: &mut [u16], x: usize, a: u8) -> bool {
+    /// Rule 2: the variables where it is a loss, ascending. The list is left as checked.
+    pub fn forward_check(&self, list: &mut [u16], x: usize, a: u8) -> Vec<usize> {
         list[x] = 1 << a;
-        let mut loss = false;
+        let mut stuck = vec![];
         for k in x + 1..list.len() {
             let partners = self.partners(list, x, a, k);
-            if self.universal[k] {
-                loss |= partners != list[k];
-            } else {
+            let clash = self.universal[k] && partners != list[k];
+            if !self.universal[k] {
                 list[k] = partners;
-                loss |= partners == 0;
+            }
+            if clash || list[k] == 0 {
+                stuck.push(k);
             }
         }
-        loss
+        stuck
     }
 
-    /// Rule 3.
-    pub fn look_ahead(&self, list: &[u16], x: usize) -> bool {
-        self.universal[x] && values(list[x]).any(|a| self.forward_check(&mut list.to_vec(), x, a))
+    /// Rule 3: each value whose forward check is a loss, ascending, with the first variable where it is one.
+    pub fn look_ahead(&self, list: &[u16], x: usize) -> Vec<(u8, usize)> {
+        let tried = if self.universal[x] { list[x] } else { 0 };
+        values(tried).filter_map(|a| self.forward_check(&mut list.to_vec(), x, a).first().map(|k| (a, *k))).collect()
     }
 
     /// Rule 4: the pure values.
@@ -102,17 +104,28 @@ impl Problem {
         those(list[x], |a| !values(list[x]).any(|b| b < a && alike(a, b)))
     }
 
+    /// The variables that share a constraint with x, as bits.
+    pub fn neighbours(&self, x: usize) -> u32 {
+        (0..self.domains.len()).filter(|k| *k != x && self.shares(x, *k)).fold(0, |all, k| all | 1 << k)
+    }
+
+    /// The first constraint, ascending by its variables, that a play of all variables breaks.
+    pub fn first_broken(&self, plays: &[u8]) -> Option<(usize, usize)> {
+        let pairs = (0..plays.len()).flat_map(|i| (i + 1..plays.len()).map(move |j| (i, j)));
+        pairs.into_iter().find(|(i, j)| !self.goes(*i, plays[*i], *j, plays[*j]))
+    }
+
     /// Loss and list of the first turn of a search after these plays, when the rules of the set have run.
     pub fn first_turn(&self, plays: &[u8], set: u64) -> (bool, Vec<u16>) {
         let mut list = self.domains.clone();
         plays.iter().enumerate().for_each(|(k, a)| list[k] = 1 << a);
-        let checked = set & 2 == 2 && (0..plays.len()).any(|k| self.forward_check(&mut list, k, plays[k]));
+        let checked = set & 2 == 2 && (0..plays.len()).any(|k| !self.forward_check(&mut list, k, plays[k]).is_empty());
         if checked || set & 1 == 1 && self.arc(&mut list) {
             return (true, list);
         }
         let x = plays.len();
         if x < list.len() {
-            if set & 4 == 4 && self.look_ahead(&list, x) {
+            if set & 4 == 4 && !self.look_ahead(&list, x).is_empty() {
                 return (true, list);
             }
             let smallest = |mask: u16| mask & mask.wrapping_neg();

@@ -1,7 +1,7 @@
 use borrow.Author.Needs.{needs}
 use mathlib.Core.Path.{sym, _∙_}
 use Rattle.file_decoder.proofs.ReadLaws.{read-refused, read-fine}
-use Rattle.rule_entries.specs.Alone.{told, forwardTold, forwardLeft}
+use Rattle.rule_entries.specs.Alone.{toldCheck, forwardTold, forwardLeft}
 use Rattle.rule_entries.proofs.forward_check.Statement.{statement}
 use Rattle.rule_entries.proofs.forward_check.Tie as tie
 
@@ -9,7 +9,7 @@ decode-requires : tie.Need-decode-requires
 decode-requires c κs = search needs
 
 returns : tie.Need-returns
-unfolding told forwardTold forwardLeft
+unfolding toldCheck forwardTold forwardLeft
 returns c = let q = c .before .decode .ensures .refused (c .if1 .taken) in (sym (read-refused _ _ _ _ _ q), sym (read-refused _ _ _ _ _ q))
 
 forward-in-requires : tie.Need-forward-in-requires

@@ -1,7 +1,7 @@
 use borrow.Author.Needs.{needs}
 use mathlib.Core.Path.{sym, _∙_}
 use Rattle.file_decoder.proofs.ReadLaws.{read-refused, read-fine}
-use Rattle.rule_entries.specs.Alone.{told, aheadTold}
+use Rattle.rule_entries.specs.Alone.{toldLook, aheadTold}
 use Rattle.rule_entries.proofs.look_ahead.Statement.{statement}
 use Rattle.rule_entries.proofs.look_ahead.Tie as tie
 
@@ -9,7 +9,7 @@ decode-requires : tie.Need-decode-requires
 decode-requires c κs = search needs
 
 returns : tie.Need-returns
-unfolding told aheadTold
+unfolding toldLook aheadTold
 returns c = sym (read-refused _ _ _ _ _ (c .before .decode .ensures .refused (c .if1 .taken)))
 
 ahead-in-requires : tie.Need-ahead-in-requires

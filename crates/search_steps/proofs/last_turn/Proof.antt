@@ -42,6 +42,9 @@ run-rules-requires c κs =
     let s = c .before .before .before .before .before .pre in
     (s .0, checked _ _ _ _ _ _ _ _ _ (s .4), search needs, search needs, s .2, nonzero _ _ _ _ _ _ _ _ _ (s .4), stated _ _ _ _ _ _ _ _ _ (s .4), settled _ _ _ _ _ _ _ _ _ (words (c .before .before .before .before)) (s .4))
 
+check-set-requires : tie.Need-check-set-requires
+check-set-requires c κs = search needs
+
 uses-requires : tie.Need-uses-requires
 uses-requires c κs = search needs
 
@@ -53,14 +56,16 @@ same-length-2 c = search needs
 
 returns-2 : tie.Need-returns-2
 returns-2 c =
-    let s = c .before .before .before .before .before .before .before .before .before .before .before .pre in
-    let small = words (c .before .before .before .before .before .before .before .before .before .before) in
-    let rules = c .before .before .before .before .before .run-rules .ensures .replies in
+    let s = c .before .before .before .before .before .before .before .before .before .before .before .before .pre in
+    let small = words (c .before .before .before .before .before .before .before .before .before .before .before) in
+    let rules = c .before .before .before .before .before .before .run-rules .ensures .replies in
     let q = s .4 in
     let own = rules (q .problem) (q .states) (q .plays) (plays-in (q .problem) _ _ _ _ _ (q .states) _ _ _ (q .plays) _ small (q .turn)) in
     record {
       reach = λ P st p t. rules-reach P _ _ _ _ _ st _ _ _ p _ _ t refl _ _ (omega (arith, s .1)) (rules P st p (plays-in P _ _ _ _ _ st _ _ _ p _ small t));
-      reply = λ P st p t. last-lost P _ _ _ _ _ st _ _ p _ small t _ (c .before .before .before .before .before .before .before .before .broken-in .ensures) (c .before .before .before .before .before .before .before .if1 .left) _ (c .before .uses .ensures) _ (c .handed .ensures) _;
+      reply = λ P st p t.
+          let o = rules P st p (plays-in P _ _ _ _ _ st _ _ _ p _ small t) in
+          last-lost P _ _ _ _ _ st _ _ p _ small t _ (c .before .before .before .before .before .before .before .before .before .broken-in .ensures) (c .before .before .before .before .before .before .before .before .if1 .left) _ _ (o .loss) (o .set) _ (c .before .before .check-set .ensures) _ (c .before .uses .ensures) _ (c .handed .ensures) _;
       room = leaves-lost _ _ _ (s .0) (s .1) (s .3) (replied-size own) (replied-behind (s .0) own);
     }
 
@@ -73,6 +78,7 @@ last-turn-spec =
     same-length
     returns
     run-rules-requires
+    check-set-requires
     uses-requires
     handed-requires
     same-length-2

@@ -7,11 +7,11 @@ use Rattle.bench.proofs.rules_alone.bench_look_ahead.Tie as tie
 look-ahead-requires : tie.Need-look-ahead-requires
 look-ahead-requires c κs = search needs
 
-ruled-requires : tie.Need-ruled-requires
-ruled-requires c κs = search needs
+looked-requires : tie.Need-looked-requires
+looked-requires c κs = search needs
 
 returns : tie.Need-returns
-returns c = c .ruled .ensures ∙ ap (asNumber 2) (c .before .look-ahead .ensures)
+returns c = c .looked .ensures ∙ ap (asNumber 2) (c .before .look-ahead .ensures)
 
 pub bench-look-ahead-spec : {M : Type 1} → statement M
-bench-look-ahead-spec = tie.close (tie.spec look-ahead-requires ruled-requires returns)
+bench-look-ahead-spec = tie.close (tie.spec look-ahead-requires looked-requires returns)

@@ -14,7 +14,7 @@ look-ahead-requires : tie.Need-look-ahead-requires
 look-ahead-requires c κs = let p = c .before .before .before .pre in (p .0, p .1, words-long _ _ _ (c .before .words-of .ensures), p .3, words-nonzero _ _ _ (c .before .words-of .ensures) (p .0) (p .4))
 
 returns : tie.Need-returns
-returns c = λ P st. ahead-ends P _ _ _ _ _ st _ _ (c .before .before .before .words-of .ensures) (c .before .before .before .before .before .pre .2) _ _ (c .before .look-ahead .ensures P st .0)
+returns c = λ P st. ahead-ends P _ _ _ _ _ st _ _ (c .before .before .words-of .ensures) (c .before .before .before .before .pre .2) _ _ _ (c .look-ahead .ensures P st)
 
 pub ahead-on-spec : {M : Type 1} → statement M
 ahead-on-spec =

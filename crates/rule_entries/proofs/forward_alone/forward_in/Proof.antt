@@ -1,10 +1,12 @@
 use borrow.Author.Needs.{needs}
+use borrow.Author.Tests.{lt-ltb, le-ltb}
 use mathlib.Core.Bool.{true, false}
 use mathlib.Core.Path.{sym, _∙_}
+use mathlib.Core.List.{[], _∷_}
 use Rattle.refusal.proofs.RepliedLaws.{reply-refused, list-refused, list-left}
-use Rattle.rule_entries.proofs.ReplyLaws.{loss-told}
+use Rattle.rule_entries.proofs.ReplyLaws.{named-told}
 use Rattle.rule_lend.proofs.LendLaws.{value-fine, value-same}
-use Rattle.rule_entries.specs.Alone.{told, forwardReply, forwardList}
+use Rattle.rule_entries.specs.Alone.{toldCheck, forwardReply, forwardList}
 use Rattle.rule_entries.proofs.forward_alone.forward_in.Statement.{statement}
 use Rattle.rule_entries.proofs.forward_alone.forward_in.Tie as tie
 
@@ -24,22 +26,30 @@ same-length : tie.Need-same-length
 same-length c = search needs
 
 returns : tie.Need-returns
-unfolding told forwardReply forwardList
+unfolding toldCheck forwardReply forwardList
 returns c = λ P h. let q = sym (c .before .before .before .value-test .ensures) ∙ c .before .t .given .1 in (reply-refused _ _ _ _ _ q (value-same P _ _ _ _ _ h _ _), list-refused _ _ _ _ _ _ q (value-same P _ _ _ _ _ h _ _))
 
 same-length-2 : tie.Need-same-length-2
 same-length-2 c = search needs
 
 returns-2 : tie.Need-returns-2
-unfolding told forwardReply forwardList
-returns-2 c = λ P h. let q = sym (c .before .before .before .before .before .before .before .value-test .ensures) ∙ c .before .before .before .before .before .enum-told .given .1 in let o = c .before .before .before .forward-on .ensures P (h .states) in (loss-told _ _ true _ q (value-same P _ _ _ _ _ h _ _) (sym (c .if1 .taken) ∙ o .0), list-left _ _ _ _ _ q (value-same P _ _ _ _ _ h _ _) (o .1))
+unfolding toldCheck forwardReply forwardList
+returns-2 c = λ P h.
+    let q = sym (c .before .before .before .before .before .before .before .before .value-test .ensures) ∙ c .before .before .before .before .before .before .enum-told .given .1 in
+    let s = value-same P _ _ _ _ _ h _ _ in
+    let o = c .before .before .before .before .forward-on .ensures P (h .states) in
+    (named-told _ _ true (c .before .before .before .before .forward-on .result ∷ []) _ _ _ q s (lt-ltb _ _ (c .if1 .taken)) (o .0), list-left _ _ _ _ _ q s (o .1))
 
 same-length-3 : tie.Need-same-length-3
 same-length-3 c = search needs
 
 returns-3 : tie.Need-returns-3
-unfolding told forwardReply forwardList
-returns-3 c = λ P h. let q = sym (c .before .before .before .before .before .before .before .value-test .ensures) ∙ c .before .before .before .before .before .enum-told .given .1 in let o = c .before .before .before .forward-on .ensures P (h .states) in (loss-told _ _ false _ q (value-same P _ _ _ _ _ h _ _) (sym (c .if1 .left) ∙ o .0), list-left _ _ _ _ _ q (value-same P _ _ _ _ _ h _ _) (o .1))
+unfolding toldCheck forwardReply forwardList
+returns-3 c = λ P h.
+    let q = sym (c .before .before .before .before .before .before .before .before .value-test .ensures) ∙ c .before .before .before .before .before .before .enum-told .given .1 in
+    let s = value-same P _ _ _ _ _ h _ _ in
+    let o = c .before .before .before .before .forward-on .ensures P (h .states) in
+    (named-told _ _ false (c .before .before .before .before .forward-on .result ∷ []) _ _ _ q s (le-ltb _ _ (c .if1 .left)) (o .0), list-left _ _ _ _ _ q s (o .1))
 
 pub forward-in-spec : {M : Type 1} → statement M
 forward-in-spec =

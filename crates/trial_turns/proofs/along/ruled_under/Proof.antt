@@ -1,12 +1,15 @@
 use borrow.Author.Needs.{needs}
-use Rattle.trial_turns.proofs.along.conflict_under.Statement.{statement}
-use Rattle.trial_turns.proofs.along.conflict_under.Tie as tie
+use Rattle.trial_turns.proofs.along.ruled_under.Statement.{statement}
+use Rattle.trial_turns.proofs.along.ruled_under.Tie as tie
 
 decode-requires : tie.Need-decode-requires
 decode-requires c κs = search needs
 
-conflict-in-requires : tie.Need-conflict-in-requires
-conflict-in-requires c κs =
+nothing-requires : tie.Need-nothing-requires
+nothing-requires c κs = search needs
+
+ruled-in-requires : tie.Need-ruled-in-requires
+ruled-in-requires c κs =
     let g = c .before .before .before .before .before .decode .ensures .given (c .before .before .before .before .if1 .left) in
     (g .most, g .range, record { problem = _; states = g .poses .states })
 
@@ -16,11 +19,12 @@ returns c = search needs
 returns-2 : tie.Need-returns-2
 returns-2 c = search needs
 
-pub conflict-under-spec : {M : Type 1} → statement M
-conflict-under-spec =
+pub ruled-under-spec : {M : Type 1} → statement M
+ruled-under-spec =
     tie.close
     (tie.spec
     decode-requires
+    nothing-requires
     returns
-    conflict-in-requires
+    ruled-in-requires
     returns-2)

@@ -1,11 +1,11 @@
 use mathlib.Core.Path.{sym, ap}
 use Rattle.rule_entries.specs.declared.Ruled.{Ruled}
 use Rattle.rule_entries.specs.Alone.{told}
-use Rattle.host_replies.specs.declared.rules.RuledList.{RuledList}
+use Rattle.host_replies.specs.declared.arcs.RuledList.{RuledList}
 use Rattle.host_replies.specs.Replies.{kindOf, numberOf, placeOf, valueOf, ruledOf}
 use borrow.Author.Needs.{needs}
-use Rattle.host_replies.proofs.rules.ruled_shown.Statement.{statement}
-use Rattle.host_replies.proofs.rules.ruled_shown.Tie as tie
+use Rattle.host_replies.proofs.arcs.ruled_shown.Statement.{statement}
+use Rattle.host_replies.proofs.arcs.ruled_shown.Tie as tie
 
 abbrev shown : Ruled → RuledList
 shown r = ruledOf (told r)

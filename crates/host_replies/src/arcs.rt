@@ -1,10 +1,10 @@
-// Replies of rules 1 to 3 alone.
+// Replies of rule 1 alone.
 ghost use mathlib.Core.Path.{_≡_};
 ghost use Rattle.rule_entries.specs.Alone.{told as toldRuled};
 ghost use Rattle.host_replies.specs.Replies.{ruledOf};
 use rule_entries::Ruled;
 
-// Whether a rule found a loss.
+// Whether rule 1 found a loss.
 #[repr(C)]
 pub struct RuledList {
     pub kind: u64,

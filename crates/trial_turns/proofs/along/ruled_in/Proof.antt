@@ -1,7 +1,7 @@
 use Prim.Native.Nat.{_≤_, _-_}
 use borrow.Author.Needs.{needs}
-use Rattle.trial_turns.proofs.along.conflict_in.Statement.{statement}
-use Rattle.trial_turns.proofs.along.conflict_in.Tie as tie
+use Rattle.trial_turns.proofs.along.ruled_in.Statement.{statement}
+use Rattle.trial_turns.proofs.along.ruled_in.Tie as tie
 
 abbrev Inv-loop : tie.InvT-loop
 Inv-loop near index rows v set plays values w₀ d₀ w d = d ≤ plays
@@ -42,8 +42,8 @@ ruled-requires-2 c κs = search needs
 returns : tie.Need-returns Inv-loop μ-loop
 returns c = search needs
 
-pub conflict-in-spec : {M : Type 1} → statement M
-conflict-in-spec =
+pub ruled-in-spec : {M : Type 1} → statement M
+ruled-in-spec =
     tie.close
     (tie.spec
     Inv-loop
