@@ -69,8 +69,19 @@ static uint64_t winning(const job *j, kb_position p) {
     return mask;
 }
 
-static void open_options(const job *j, const kb_position *p, kb_opened *o) {
+/* Whether nothing is usable any more: a play, or what is left of an unplayed choice, got stuck on an earlier play. */
+static int stuck(const job *j, const kb_position *p) {
     for (uint64_t k = 0; k < j->n; k++) {
+        uint16_t all = k < p->plays ? (uint16_t)(1u << p->values[k]) : j->domains[k], left = all;
+        for (uint64_t i = 0; i < k && i < p->plays; i++) left = going(j, i, p->values[i], k, left);
+        if (universal(j, k) ? left != all : left == 0) return 1;
+    }
+    return 0;
+}
+
+static void open_options(const job *j, const kb_position *p, kb_opened *o) {
+    uint64_t shown = stuck(j, p) ? p->plays : j->n;
+    for (uint64_t k = 0; k < shown; k++) {
         uint16_t mask = k < p->plays ? (uint16_t)(1u << p->values[k]) : j->domains[k];
         for (uint64_t i = 0; k >= p->plays && !universal(j, k) && i < p->plays; i++) mask = going(j, i, p->values[i], k, mask);
         o->masks[k] = mask;

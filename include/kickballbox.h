@@ -242,8 +242,9 @@ kb_moved kb_take_back(const uint8_t *file, size_t length, kb_position position);
 kb_answer kb_session_play(const uint8_t *file, size_t length, kb_session *session, uint64_t option);
 kb_answer kb_session_take_back(const uint8_t *file, size_t length, kb_session *session);
 
-/* The open options of every choice: a played one's own option, all of a day's choice, and of a shift's choice those that go with
-   every play. Refuses the file; then 23. */
+/* The open options of every choice, those still usable: a played one's own option, all of a day's choice, and of a shift's choice
+   those that go with every play. Nothing is usable at any unplayed choice if two plays clash, if no option of an unplayed shift's
+   choice goes with every play, or if a play clashes with an option of an unplayed day's choice. Refuses the file; then 23. */
 kb_opened kb_open(const uint8_t *file, size_t length, kb_position position);
 
 /* ---- judging */

@@ -129,8 +129,10 @@ impl<'a> File<'a> {
         Session::new(self, Position::fresh())
     }
 
-    /// The open values of every variable: a played one's own value, all of a universal variable, and of an existential one those
-    /// that go with every play. Refuses with `Misfit`.
+    /// The open values of every variable, those still usable: a played one's own value, all of a universal variable, and of an
+    /// existential one those that go with every play. Nothing is usable at any unplayed variable if two plays clash, if no value of
+    /// an unplayed existential variable goes with every play, or if a play clashes with a value of an unplayed universal variable.
+    /// Refuses with `Misfit`.
     pub fn open_values(self, position: &Position) -> Result<OpenValues, Refusal> {
         let (file, length) = self.lent();
         // SAFETY: the entry reads the file's bytes.

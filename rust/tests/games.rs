@@ -1,7 +1,7 @@
 //! Stored games under all 128 rule sets: judged, marked and searched, in lent room and in room of their own.
 
 use crate::stored::{self, Game};
-use crate::{all_sets, lent, tally::Tally};
+use crate::{all_sets, lent, plain, tally::Tally};
 use kickballbox::{File, Marks, Position, Reason, Refusal, RuleSet};
 
 fn n_of(game: &Game) -> usize {
@@ -93,6 +93,25 @@ fn opened() {
         tally.compare(File::new(&game.file).open_values(&game.position), Ok(game.opened));
     }
     tally.end(700);
+}
+
+/// Card 3: positions where two plays clash, an existential variable has nothing open, a play clashes with a universal variable, any two
+/// or all three of these hold, or none; and the plain reading of them that other tests go by.
+#[test]
+fn opened_after_a_clash() {
+    let mut tally = Tally::new("card 3: open values");
+    let mut plain = Tally::new("card 3: causes and open values of the plain reading");
+    let mut by_cause = [0; 8];
+    for opening in stored::openings() {
+        let p = plain::read(&opening.file).expect("an accepted file");
+        let plays = opening.position.played();
+        tally.compare(File::new(&opening.file).open_values(&opening.position), Ok(opening.opened));
+        plain.compare((plain::causes(&p, plays), plain::open_values(&p, plays)), (opening.causes, opening.opened));
+        by_cause[usize::from(opening.causes)] += 1;
+    }
+    tally.end(1000);
+    plain.end(1000);
+    assert_eq!(by_cause.iter().filter(|&&cases| cases > 0).count(), 8, "causes alone and together: {by_cause:?}");
 }
 
 /// G7 of document 01 with every RS byte, called with sets on either side of 127, in the fresh position and in one that does not fit,

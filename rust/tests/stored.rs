@@ -107,6 +107,24 @@ pub fn games() -> Vec<Game> {
     })
 }
 
+/// A position, why nothing is open there, and what is.
+pub struct Opening {
+    pub file: Vec<u8>,
+    pub position: Position,
+    /// As bits: 1 two plays clash, 2 an unplayed existential variable has no open value, 4 a play clashes with an unplayed universal one.
+    pub causes: u8,
+    pub opened: OpenValues,
+}
+
+pub fn openings() -> Vec<Opening> {
+    all("card03.bin", |c| {
+        let file = c.file();
+        let position = played(c);
+        let n = n_of(&file);
+        Opening { position, causes: c.byte(), opened: opened(c, n), file }
+    })
+}
+
 fn played(c: &mut Cases) -> Position {
     let plays = c.byte();
     Position::after(&c.bytes(plays.into())).expect("at most 32 plays")

@@ -11,7 +11,7 @@ pub mod Lists
 pub mod Position
 -- The plain list of plays that stand, fed by calls ("The game", second paragraph).
 pub mod Calls
--- Open values and their counts ("Open options").
+-- Open values and their counts ("Open options"; document 02, card 3).
 pub mod Open
 -- The verdict of a position and the winning values of its next variable.
 pub mod Winning

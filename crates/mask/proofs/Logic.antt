@@ -1,6 +1,6 @@
 -- Tests as types. `T b` of the kit is the type that holds where b is true; these lemmas go between it and equations.
 use mathlib.Core.Path.{_≡_, refl, sym}
-use mathlib.Core.Bool.{Bool, true, false, _&&_, _||_}
+use mathlib.Core.Bool.{Bool, true, false, cond, _&&_, _||_}
 use Prim.Native.Nat.{ℕ, _<_, _≤_}
 use native.Mathlib.Omega.{arith}
 use native.Mathlib.Decide.{ℕ-discrete, decLt}
@@ -12,6 +12,13 @@ same true true f g = refl
 same true false f g = absurd (f tt)
 same false true f g = absurd (g tt)
 same false false f g = refl
+
+-- So are two that are false together.
+pub same-false : (a b : Bool) → (a ≡ false → b ≡ false) → (b ≡ false → a ≡ false) → a ≡ b
+same-false true true f g = refl
+same-false true false f g = g refl
+same-false false true f g = sym (f refl)
+same-false false false f g = refl
 
 -- A test that holds is true, one that cannot is false, one that is false does not hold.
 pub holds : {b : Bool} → T b → b ≡ true
@@ -65,6 +72,11 @@ or-out false b t f g = g t
 pub or-out-false : (a b : Bool) → (a || b) ≡ false → (a ≡ false) × (b ≡ false)
 or-out-false true b e = absurd (true-holds (sym e))
 or-out-false false b e = (refl, e)
+
+-- Two cases that agree.
+pub cond-same : {A : Type 0} (b : Bool) (x : A) → cond b x x ≡ x
+cond-same true x = refl
+cond-same false x = refl
 
 -- A part that follows from the other.
 pub and-keep : (a b : Bool) → (T a → T b) → (a && b) ≡ a

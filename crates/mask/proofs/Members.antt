@@ -114,6 +114,13 @@ bit-ones n k =
 pub ones-lt : (w n : ℕ) → n ≤ w → 2 ^ n - 1 < 2 ^ w
 ones-lt w n h = let p = pow-pos n in let q = pow-mono {i = n} {j = w} h in omega arith
 
+-- The one member of a mask of one value.
+pub some-single : (w v : ℕ) (f : ℕ → Bool) → v < w → some w (bit (2 ^ v)) f ≡ f v
+some-single w v f h =
+    same (some w (bit (2 ^ v)) f) (f v)
+    (λ t. let r = some-out w (bit (2 ^ v)) f t in rw (eqb→eq (r .0) v (rw (bit-single v (r .0)) at (r .2))) at (r .3))
+    (λ t. some-in w (bit (2 ^ v)) f v h (true-holds (bit-single v v ∙ eq-eqb v v refl)) t)
+
 -- The values below a: some of them passes where one of the mask's members below a does.
 pub some-below : (n a m : ℕ) (f : ℕ → Bool) → a ≤ n → some n (bit (bitAnd m (2 ^ a - 1))) f ≡ some a (bit m) f
 some-below n a m f h =

@@ -30,7 +30,8 @@ pub struct Played {
     pub position: Position,
 }
 
-// The open values of each variable as a mask, and how many they are. Zero at n and above, and where the call is refused.
+// The open values of each variable, those still usable, as a mask, and how many they are. Zero at n and above, and where the call is
+// refused.
 pub struct Opened {
     pub answer: Answer,
     pub masks: [u16; 32],

@@ -16,7 +16,7 @@ use Rattle.game.specs.Game.{put, turn, satisfied, won, wins}
 use Rattle.game.specs.Lists.{domains, listOf, masksOf, spread, within, mayLend, winsOver}
 use Rattle.game.specs.Position.{narrowed, position}
 use Rattle.game.specs.Calls.{withoutLast, afterCall, standingFrom, standing}
-use Rattle.game.specs.Open.{isOpen, openValues, openCounts}
+use Rattle.game.specs.Open.{goesWithPlays, playsClash, existentialEmpty, universalClash, stuck, isOpen, openValues, openCounts}
 use Rattle.game.specs.Winning.{verdict, winningValues}
 use Rattle.game.specs.Support.{clashes, alone, empty}
 use Rattle.game.specs.Arc.{dead, barred, arcLoss, sweep, swept, arc}
@@ -44,7 +44,7 @@ unfolding some each bit maskOf _then_ need only countsFit inOrder pairOf rowFits
 reading = tt
 
 game : Unit {0}
-unfolding count put turn satisfied won wins domains listOf masksOf within mayLend winsOver narrowed position withoutLast afterCall standingFrom standing isOpen openValues openCounts verdict winningValues clashes alone empty dead barred arcLoss sweep swept arc isPure pure interchange representatives interchangeable
+unfolding count put turn satisfied won wins domains listOf masksOf within mayLend winsOver narrowed position withoutLast afterCall standingFrom standing goesWithPlays playsClash existentialEmpty universalClash stuck isOpen openValues openCounts verdict winningValues clashes alone empty dead barred arcLoss sweep swept arc isPure pure interchange representatives interchangeable
 game = tt
 
 replies : Unit {0}

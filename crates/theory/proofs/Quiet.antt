@@ -32,12 +32,13 @@ use Rattle.theory.proofs.Revisions.{revisions-closed, kills-local}
 use Rattle.theory.proofs.Explained as explaining
 use Rattle.theory.proofs.Narrowed.{Trims}
 use Rattle.theory.proofs.Search.{F, foe, foe-in, trims, after}
+use Rattle.theory.proofs.Turn.{unclashed-goes}
 use Rattle.theory.proofs.TurnLists.{snoc-length}
 use Rattle.theory.proofs.Turns.{At, turn-at, turn-list, entry-loss, entry-list}
 use Rattle.theory.proofs.Lists.{domains-boxed, lent-out}
 
 -- A chain of rules without a loss ends with what its last rule leaves.
-pub chain-through : (r s : Ruling) (l R : List ℕ) → chain r s l R .loss ≡ false
+chain-through : (r s : Ruling) (l R : List ℕ) → chain r s l R .loss ≡ false
     → (r l R .loss ≡ false) × (s (r l R .list) (r l R .why) .loss ≡ false) × (chain r s l R .list ≡ s (r l R .list) (r l R .why) .list)
 unfolding chain
 chain-through r s l R e = go (r l R .loss) refl e
@@ -260,12 +261,6 @@ module _ (P : Problem) where
           let f : getD (nextList P (after P S c p l R) (length p) a) x 0 ≡ 2 ^ getD (p ++ (a ∷ [])) x 0 = ap (λ (z : List ℕ). getD (nextList P z (length p) a) x 0) (sym r) ∙ q in
           single-only (nextList P (after P S c p l R) (length p) a) x (getD (p ++ (a ∷ [])) x 0) b f y
 
-  -- A value goes with each of a domain that it clashes with none of.
-  pub unclashed-goes : (D : Domains) (x a y b : ℕ) → b < 16 → T (D y b) → clashes P D x a y ≡ false → T (compatible x a y b)
-  unfolding clashes
-  unclashed-goes D x a y b lb at-y e =
-      test (compatible x a y b) (λ t. t) (λ f. absurd (clash e (some-in 16 (D y) (λ v. not (compatible x a y v)) b lb at-y (true-holds (ap not f)))))
-
   -- The values of two variables that have no others, where the later has no effect on the earlier.
   quiet-goes : (D : Domains) (x a y b : ℕ) → x < y → a < 16 → b < 16 → T (D x a) → T (D y b) → ((v : ℕ) → T (D y v) → v ≡ b) → Quiet D x y → T (compatible x a y b)
   unfolding kills barred alone
@@ -277,11 +272,11 @@ module _ (P : Problem) where
           subst (λ (v : ℕ). T (compatible x a y v)) (only (r .0) (r .2)) (r .3)
 
       lived : (j : Bool) → cond (j && ltb x y) (clashes P D x a y) (alone P D x a y) ≡ false → T (compatible x a y b)
-      lived true e = unclashed-goes D x a y b lb at-y (rw (lt-ltb x y h) at e)
+      lived true e = unclashed-goes P D x a y b lb at-y (rw (lt-ltb x y h) at e)
       lived false e = joined e
 
       unbarred : (j : Bool) → cond j (clashes P D x a y) (ltb x y && alone P D x a y) ≡ false → T (compatible x a y b)
-      unbarred true e = unclashed-goes D x a y b lb at-y e
+      unbarred true e = unclashed-goes P D x a y b lb at-y e
       unbarred false e = joined (rw (lt-ltb x y h) at e)
 
       near : T (constrained x y) → T (compatible x a y b)

@@ -1,6 +1,6 @@
 -- Each theorem at a small problem of document 01, what the rules that the table of small_problems does not ask for compute there, and the two
 -- plausible and wrong readings of rules.
-use mathlib.Core.Path.{_≡_, refl, sym, ap}
+use mathlib.Core.Path.{_≡_, refl, sym, ap, _∙_}
 use mathlib.Core.Bool.{Bool, true, false, cond, not, _&&_, _||_}
 use mathlib.Core.List.{List, [], _∷_}
 use Prim.Native.Nat.{ℕ, zero, suc, _<_}
@@ -17,7 +17,7 @@ use Rattle.game.specs.Game.{Domains, put, turn, satisfied, won, wins}
 use Rattle.game.specs.Lists.{domains, listOf, masksOf, narrowTo, within, mayLend, winsOver}
 use Rattle.game.specs.Position.{playOf, legal, narrowed, position}
 use Rattle.game.specs.Calls.{play, takeBack, withoutLast, afterCall, standingFrom, standing}
-use Rattle.game.specs.Open.{openValues, openCounts}
+use Rattle.game.specs.Open.{goesWithPlays, playsClash, existentialEmpty, universalClash, stuck, openValues, openCounts}
 use Rattle.game.specs.Winning.{verdict, winningValues}
 use Rattle.game.specs.Support.{clashes, alone, empty}
 use Rattle.game.specs.Rule.{uses, Ruled, unruled, ifSo, andNext}
@@ -92,6 +92,14 @@ turns : (reached G1 2 0 (0 ∷ []) (firstList G1 (0 ∷ [])) ≡ ruled false (1 
 unfolding some each bit maskOf domains listOf masksOf narrowed position clashes alone empty dead barred arcLoss sweep swept arc forwardDomains forwardLoss forward aheadLoss lookAhead lowest isPure purged purge interchange representatives interchangeable represent uses unruled ifSo andNext firstList checks ahead narrowPure narrowInterchangeable nextRules reached
 turns = (refl, refl, refl, refl, refl)
 
+-- Why nothing is usable, each cause by itself: plays that clash; nothing open at G6's existential variable; a play that clashes with a value of
+-- G2's universal one. None in G1 after 0.
+causes : (playsClash G1 (0 ∷ 0 ∷ []) ≡ true) × (existentialEmpty G6 (1 ∷ 0 ∷ []) ≡ true) × (universalClash G2 (0 ∷ []) ≡ true)
+    × ((playsClash G6 (1 ∷ 0 ∷ []) || universalClash G6 (1 ∷ 0 ∷ [])) ≡ false) × ((playsClash G2 (0 ∷ []) || existentialEmpty G2 (0 ∷ [])) ≡ false)
+    × (stuck G1 (0 ∷ []) ≡ false) × (stuck G2 (0 ∷ []) ≡ true)
+unfolding some each bit domains clashes goesWithPlays playsClash existentialEmpty universalClash stuck
+causes = (refl, refl, refl, refl, refl, refl, refl)
+
 -- THE THEOREMS at small problems: their hypotheses are met ----------------------------------------------------------------------
 abbrev full : List ℕ
 full = 3 ∷ 3 ∷ []
@@ -133,6 +141,21 @@ g1-by-all = Theorems.won-by-all G1 [] tt (omega arith) refl
 
 g1-counts : getD (openCounts G1 (0 ∷ [])) 1 0 ≡ ones-of (getD (openValues G1 (0 ∷ [])) 1 0)
 g1-counts = Theorems.open-counts G1 (0 ∷ []) 1 (omega arith)
+
+g1-open : openValues G1 (0 ∷ []) ≡ reached G1 2 0 (0 ∷ []) (firstList G1 (0 ∷ [])) .list
+unfolding each bit domains legal
+g1-open = Theorems.open-by-rule-2 G1 (0 ∷ []) tt .1 (causes .5)
+
+g2-loses : reached G2 2 0 (0 ∷ []) (firstList G2 (0 ∷ [])) .loss ≡ true
+unfolding each bit domains legal
+g2-loses = sym (Theorems.open-by-rule-2 G2 (0 ∷ []) tt .0) ∙ causes .6
+
+g2-stuck : verdict G2 (0 ∷ []) ≡ false
+unfolding each bit domains legal
+g2-stuck = Theorems.stuck-lost G2 (0 ∷ []) tt (causes .6)
+
+g3-fresh : stuck G3 [] ≡ false
+g3-fresh = Theorems.fresh-not-stuck G3
 
 has-0 : T (bit 3 0)
 unfolding bit

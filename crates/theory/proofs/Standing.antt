@@ -56,7 +56,7 @@ module _ (P : Problem) where
   open Problem P using (n, domain, universal, compatible)
 
   -- Every list of plays that stands is a position.
-  legal-none : T (legal P [])
+  pub legal-none : T (legal P [])
   legal-none = legal-in P [] (omega arith) (λ j h. absurd (omega arith))
 
   -- One more play in its domain, and one play fewer.

@@ -20,7 +20,7 @@ use Rattle.game.specs.Game.{turn, satisfied}
 use Rattle.game.specs.Lists.{domains, narrowTo, mayLend, winsOver}
 use Rattle.game.specs.Position.{playOf, legal}
 use Rattle.game.specs.Calls.{Call, standing}
-use Rattle.game.specs.Open.{openValues, openCounts}
+use Rattle.game.specs.Open.{stuck, openValues, openCounts}
 use Rattle.game.specs.Winning.{verdict, winningValues}
 use Rattle.game.specs.Rule.{uses, ListRule, unruled, ifSo, andNext}
 use Rattle.game.specs.Arc.{arc, arcLoss}
@@ -50,6 +50,7 @@ use Rattle.theory.proofs.Standing.{legal-snoc}
 use Rattle.theory.proofs.Turns
 use Rattle.theory.proofs.Turns.{At, turn-at}
 use Rattle.theory.proofs.Named
+use Rattle.theory.proofs.OpenChecks
 use Rattle.theory.proofs.LastChecks
 use Rattle.theory.proofs.SameLeaf
 
@@ -196,6 +197,24 @@ module _ (P : Problem) where
 
   pub first-five-decide : (s t c : ℕ) (p : List ℕ) → ((k : ℕ) → k < 6 → uses s k ≡ uses t k) → reached P s c p ≡ reached P t c p
   first-five-decide s t c p e = Sets.same-turn P s t c p e
+
+  -- OPEN VALUES (document 02, card 3) -----------------------------------------------------------------------------------------
+  -- They are rule 2's: nothing is usable exactly where rule 2 over all plays, from the list of the position, finds a loss; otherwise the open
+  -- values are the list that it leaves.
+  pub open-by-rule-2 : (p : List ℕ) → T (legal P p)
+      → (stuck P p ≡ reached P 2 0 p (firstList P p) .loss) × (stuck P p ≡ false → openValues P p ≡ reached P 2 0 p (firstList P p) .list)
+  open-by-rule-2 p t =
+      let e : reached P 2 0 p ≡ checks P (length p) 0 p = Sets.checks-turn P 0 p ∙ ap (λ (k : ℕ). checks P k 0 p) (omega arith) in
+      rw e (OpenChecks.stuck-checks P p t, OpenChecks.open-checks P p t)
+
+  -- "Positions that were lost already."
+  pub stuck-lost : (p : List ℕ) → T (legal P p) → stuck P p ≡ true → verdict P p ≡ false
+  stuck-lost p t e = position-verdict 2 p t ∙ rw (sym (open-by-rule-2 p t .0) ∙ e)
+
+  -- In a fresh position everything is usable.
+  pub fresh-not-stuck : stuck P [] ≡ false
+  unfolding checks unruled
+  fresh-not-stuck = OpenChecks.stuck-checks P [] (Standing.legal-none P)
 
 -- Rules that are switched off change nothing: a rule that is off is no rule, and no rule before or after another leaves that one.
 pub off-changes-nothing : (r : ListRule) → (ifSo false r ≡ unruled) × (andNext unruled r ≡ r) × (andNext r unruled ≡ r)

@@ -1,11 +1,11 @@
 -- The rules of a turn on domains, each of which keeps the turn, and all of them in their order under a rule set.
-use mathlib.Core.Path.{_≡_, refl, _∙_}
+use mathlib.Core.Path.{_≡_, refl, ap, _∙_}
 use mathlib.Core.Bool.{Bool, true, false, cond, not, _&&_, _||_}
 use Prim.Native.Nat.{ℕ, zero, suc, _+_, _-_, _*_, _≤_, _<_}
 use native.Mathlib.Omega.{arith}
 use lib.Dec.{T, not-T, eqb, eqb→eq, eqb-refl, ltb, lt→ltb, ltb→lt}
 use Rattle.game.specs.Arc.{sweep, sweeps}
-use Rattle.mask.proofs.Logic.{same, holds, clash, test, by-eq, and-in, and-out, by-lt}
+use Rattle.mask.proofs.Logic.{same, holds, true-holds, clash, test, by-eq, and-in, and-out, by-lt}
 use Rattle.mask.proofs.Range.{some-out, some-in}
 use Rattle.mask.specs.Range.{some}
 use Rattle.game.specs.Arc.{dead, arcLoss, barred}
@@ -59,6 +59,12 @@ module _ (P : Problem) where
   value-left E j h =
       test (some 16 (E j) (λ a. true)) (λ t. let r = some-out 16 (E j) (λ a. true) t in (r .0, (r .1, r .2)))
       (λ e. absurd (h (not-T (some 16 (E j) (λ a. true)) (clash e))))
+
+  -- A value goes with each of a domain that it clashes with none of.
+  pub unclashed-goes : (D : Domains) (x a y b : ℕ) → b < 16 → T (D y b) → clashes P D x a y ≡ false → T (compatible x a y b)
+  unfolding clashes
+  unclashed-goes D x a y b lb at-y e =
+      test (compatible x a y b) (λ t. t) (λ f. absurd (clash e (some-in 16 (D y) (λ v. not (compatible x a y v)) b lb at-y (true-holds (ap not f)))))
 
   -- Rule 1.
   unfoldable pub arc : Rule

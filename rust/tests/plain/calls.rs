@@ -14,14 +14,31 @@ pub fn fits(p: &Problem, at: &Position) -> bool {
     at.plays <= p.domains.len() as u64 && places.into_iter().all(|(k, &v)| if (k as u64) < at.plays { p.has(k, v.into()) } else { v == 0 })
 }
 
-/// The open values after these plays.
+/// Why no unplayed variable has an open value, as bits: 1 two plays clash, 2 an unplayed existential variable has no value that goes with
+/// every play, 4 a play clashes with a value of an unplayed universal one.
+pub fn causes(p: &Problem, plays: &[u8]) -> u8 {
+    let clash = |j: usize, b: u8| (0..plays.len()).any(|i| !p.goes(i, plays[i], j, b));
+    let mut found = u8::from(clashing(p, plays));
+    for j in plays.len()..p.domains.len() {
+        let mut values = (0..16).filter(|&b| p.has(j, b.into()));
+        if p.universal[j] {
+            found |= u8::from(values.any(|b| clash(j, b))) << 2;
+        } else {
+            found |= u8::from(values.all(|b| clash(j, b))) << 1;
+        }
+    }
+    found
+}
+
+/// The open values after these plays: of an unplayed variable those still usable.
 pub fn open_values(p: &Problem, plays: &[u8]) -> OpenValues {
     let mut opened = OpenValues { masks: [0; 32], counts: [0; 32] };
+    let usable = causes(p, plays) == 0;
     for j in 0..p.domains.len() {
         for b in 0..16 {
             let open = match plays.get(j) {
                 Some(&played) => b == played,
-                None => p.has(j, b.into()) && (p.universal[j] || (0..plays.len()).all(|i| p.goes(i, plays[i], j, b))),
+                None => usable && p.has(j, b.into()) && (p.universal[j] || (0..plays.len()).all(|i| p.goes(i, plays[i], j, b))),
             };
             if open {
                 opened.masks[j] |= 1 << b;

@@ -9,7 +9,7 @@ pub mod qdimacs;
 mod rules;
 mod text;
 
-pub use calls::{clashing, fits, open_values, PlainList};
+pub use calls::{causes, clashing, fits, open_values, PlainList};
 pub use game::Game;
 pub use generator::{position_after, problem, some_position, Kind, Random};
 pub use text::text;

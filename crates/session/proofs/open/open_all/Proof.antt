@@ -9,11 +9,14 @@ use Rattle.session.proofs.open.open_all.Statement.{statement}
 use Rattle.session.proofs.open.open_all.Tie as tie
 
 abbrev Inv-loop : tie.InvT-loop
-Inv-loop index rows p v values masks₀ counts₀ j₀ masks counts j =
-    (j ≤ v .n) × (masks ≡ spread (openMasks index rows v p j)) × (counts ≡ spread (maskCounts index rows v p j))
+Inv-loop index rows p v values closed masks₀ counts₀ j₀ masks counts j =
+    (j ≤ v .n) × (masks ≡ spread (openMasks index rows v p closed j)) × (counts ≡ spread (maskCounts index rows v p closed j))
 
 abbrev μ-loop : tie.MeasureT-loop
-μ-loop index rows p v values masks₀ counts₀ j₀ masks counts j = v .n - j
+μ-loop index rows p v values closed masks₀ counts₀ j₀ masks counts j = v .n - j
+
+is-stuck-requires : tie.Need-is-stuck-requires Inv-loop μ-loop
+is-stuck-requires c κs = search needs
 
 loop-holds : tie.Need-loop-holds Inv-loop μ-loop
 unfolding spread openMasks maskCounts listOf
@@ -52,12 +55,12 @@ loop-again c =
     let l = c .before .before .before .before .before .loop in
     let b : l .j < 32 = search needs in (
       search needs,
-      masks-next _ _ _ _ _ _ _ b (l .inv .1) (c .before .open-mask .ensures),
-      counts-next _ _ _ _ _ _ _ _ b (l .inv .2) (c .before .open-mask .ensures) (c .count-byte .ensures),
+      masks-next _ _ _ _ _ _ _ _ b (l .inv .1) (c .before .open-mask .ensures),
+      counts-next _ _ _ _ _ _ _ _ _ b (l .inv .2) (c .before .open-mask .ensures) (c .count-byte .ensures),
     )
 
 returns : tie.Need-returns Inv-loop μ-loop
-returns c = all-done _ _ _ _ _ _ _ (omega arith) (c .before .loop .inv .1) (c .before .loop .inv .2)
+returns c = all-done _ _ _ _ _ _ _ _ (omega arith) (c .before .before .is-stuck .ensures) (c .before .loop .inv .1) (c .before .loop .inv .2)
 
 pub open-all-spec : {M : Type 1} → statement M
 open-all-spec =
@@ -65,6 +68,7 @@ open-all-spec =
     (tie.spec
     Inv-loop
     μ-loop
+    is-stuck-requires
     loop-holds
     mul-open-mask
     element-copy-out-open-mask
