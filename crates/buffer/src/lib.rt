@@ -1,6 +1,8 @@
 // Bytes put into a buffer one behind another, decimal numbers among them, and the laws of what is stored. It rests on `mask`
 // alone and is for the crates that form bytes. Each function replies the place behind what it put. What lies behind the buffer's end is
 // left out, so the same functions measure a text and write it.
+#![tactic(auto)]
+
 ghost use Rattle.std.specs.Prelude.{◌≡◌, [], ◌∷◌, ◌+◌, ◌<◌, min};
 ghost use Rattle.buffer.specs.Decimal.{decimal};
 ghost use Rattle.buffer.specs.Put.{largest, Put};

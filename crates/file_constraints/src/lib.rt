@@ -1,5 +1,7 @@
 // The constraints of a file one by one, by their numbers: what the solver reads of an accepted file beside the reading's reply. It
 // rests on `file_layout`, and its laws on what reader and look-up tell. Every function here is for `file_decoder`.
+#![tactic(auto)]
+
 ghost use Rattle.std.specs.Prelude.{◌≡◌, ◌<◌};
 ghost use Rattle.file_constraints.specs.Constraints.{constraints_at, constraint_one, constraint_two, constraint_row, Whole};
 

@@ -1,6 +1,8 @@
 // An accepted file decoded once: the problem that it states, the arrays that the solver goes by instead of the file's bytes, and what
 // an entry is given of both. It rests on `file_reader`, `file_constraints` and `solver_arrays`. Each constraint is entered at the place of
 // its number, in both directions, so decoding is linear in the file. `decode` is for the entries of the solver.
+#![tactic(auto)]
+
 ghost use Rattle.file_decoder.specs.Decoded.{Decodes};
 
 mod entries;
@@ -13,7 +15,7 @@ use solver_arrays::{Index, Near, Rows, Variables};
 
 // What decoding answers: the number and place of a refused file, or how many variables are to play and all that are decoded, of
 // which these are the first.
-#[derive(Drop)]
+#[derive(Clone, Copy)]
 pub struct Decoded {
     pub refused: bool,
     pub number: u8,

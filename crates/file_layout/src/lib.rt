@@ -1,5 +1,7 @@
 // The layout of problem files (document 01, "The job file"): bytes, marks, what stands where, and the tests on numbers that reader and
 // writer share. It rests on `mask` and `refusal`. Every function here is for the other crates of the file.
+#![tactic(auto)]
+
 mod bytes;
 mod numbers;
 mod places;
@@ -9,7 +11,7 @@ pub use numbers::{counts_fit, in_order, row_fits};
 pub use places::{domain_at, pair_at, rules_at, variables_at};
 
 // A rule set's number, or none.
-#[derive(Drop)]
+#[derive(Clone, Copy)]
 pub enum Rules {
     Absent,
     Given(u8),

@@ -1,5 +1,7 @@
 // The look-up of a pair of variables in a problem file: where its constraint's 16 rows stand. It rests on `file_reader` and
 // `file_layout`. `look_up` and `rows` are open to callers. Rows are shown as a part of the caller's file, so nothing is copied.
+#![tactic(auto)]
+
 ghost use Rattle.std.specs.Prelude.{◌≡◌, cond, [], ◌∷◌, ◌+◌, ◌*◌, ◌≤◌, ◌<◌};
 ghost use Rattle.refusal.specs.Told.{replied};
 ghost use Rattle.file_layout.specs.Numbers.{pair_of};
@@ -10,7 +12,7 @@ use file_reader::check_file;
 use refusal::Verdict;
 
 // The place of the first row byte; no constraint joins the pair; refused by number; the file's refusal with its place.
-#[derive(Drop)]
+#[derive(Clone, Copy)]
 pub enum Found {
     Rows(usize),
     Free,

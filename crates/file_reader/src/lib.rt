@@ -1,6 +1,8 @@
 // The reader of problem files (document 01, "The job file"). It takes exactly the files of the layout and tells a refused one's number
 // and place. It rests on `file_records` and `file_layout`. `read` is open to callers; `check_file` is for `file_lookup`, `rules_used`
 // for `host` and `reporting`.
+#![tactic(auto)]
+
 ghost use Rattle.std.specs.Prelude.{◌≡◌};
 ghost use Rattle.file_reader.specs.Reading.{told, header_of, domains_of};
 
@@ -15,7 +17,7 @@ use values::{domains, universal_bits};
 pub use whole::check_file;
 
 // The numbers of an accepted file: variables and constraints, the rule set or none, the universal variables as bits.
-#[derive(Drop)]
+#[derive(Clone, Copy)]
 pub struct Head {
     pub n: u8,
     pub m: u16,
@@ -24,13 +26,13 @@ pub struct Head {
 }
 
 // What reading answers beside the domains: the file's numbers, or a refusal's number and place.
-#[derive(Drop)]
+#[derive(Clone, Copy)]
 pub enum Header {
     Accepted(Head),
     Refused(u8, usize),
 }
 
-#[derive(Drop)]
+#[derive(Clone, Copy)]
 pub struct Reading {
     pub header: Header,
     pub domains: [u16; 32],

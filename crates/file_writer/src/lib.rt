@@ -1,5 +1,7 @@
 // The writer of problem files (document 01, "The job file"). It is handed numbers and no file, makes all its tests before it writes, and
 // writes at the front of the caller's buffer. It rests on `file_bytes` and `file_layout`. `write` is open to callers.
+#![tactic(auto)]
+
 ghost use Rattle.std.specs.Prelude.{◌≡◌, length};
 ghost use Rattle.file_bytes.specs.Bytes.{handed};
 ghost use Rattle.file_writer.specs.Writing.{told, write_told, write_buffer};
@@ -12,7 +14,7 @@ use refusal::Verdict;
 use tests::write_test;
 
 // The length written, or a refusal's number.
-#[derive(Drop)]
+#[derive(Clone, Copy)]
 pub enum Written {
     Length(usize),
     Refused(u8),

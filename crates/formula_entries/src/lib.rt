@@ -1,5 +1,7 @@
 // A problem file as the text of a quantified boolean formula (QDIMACS), and that text judged (document 02, card 1). It rests on
 // `file_decoder`, `formula_text` and `formula_judge`. `write_formula` and `judge_formula` are open to callers.
+#![tactic(auto)]
+
 ghost use Rattle.std.specs.Prelude.{◌≡◌, length};
 ghost use Rattle.formula_text.specs.Written.{Printable};
 ghost use Rattle.formula_entries.specs.Told.{told, text_test, formula_told, formula_left, Writes, told_judged, judge_formula_told};
@@ -11,7 +13,7 @@ use refusal::{Verdict, needed};
 use solver_arrays::{Index, Near, ROWS, Rows, Variables};
 
 // What writing replies: the length of the text; refused by number; the file's refusal with its place.
-#[derive(Drop)]
+#[derive(Clone, Copy)]
 pub enum WrittenFormula {
     Length(usize),
     Refused(u8),
@@ -19,7 +21,7 @@ pub enum WrittenFormula {
 }
 
 // What judging replies: won or lost, with the length of the text; refused by number; the file's refusal with its place.
-#[derive(Drop)]
+#[derive(Clone, Copy)]
 pub enum JudgedFormula {
     Won(usize),
     Lost(usize),

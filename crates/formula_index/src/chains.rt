@@ -7,7 +7,7 @@ use crate::reading::literal_at;
 use crate::{CLAUSES, PLACES};
 
 // The last boolean of a clause, 0 where it has none, and the place behind it.
-#[derive(Drop)]
+#[derive(Clone, Copy)]
 pub struct Clause {
     pub last: usize,
     pub after: usize,

@@ -1,5 +1,7 @@
 // A formula's text read once, by places: the side of each boolean of the prefix, where each clause begins, and the clauses of each last
 // boolean as a chain. Total on any bytes; a byte past the end is 0. It rests on `formula`. Everything here is for `formula_judge`.
+#![tactic(auto)]
+
 mod chains;
 mod prefix;
 mod reading;

@@ -4,14 +4,14 @@ ghost use Rattle.formula.specs.Text.{is_digit, number_at, after};
 ghost use Rattle.formula_index.specs.Reading.{Reads};
 
 // A number, and the place behind it and the one byte that parts it from what follows.
-#[derive(Drop)]
+#[derive(Clone, Copy)]
 pub struct Number {
     pub value: usize,
     pub after: usize,
 }
 
 // A literal, with boolean 0 where a line ends, and the place behind it and one byte more.
-#[derive(Drop)]
+#[derive(Clone, Copy)]
 pub struct Read {
     pub negative: bool,
     pub boolean: usize,

@@ -1,6 +1,8 @@
 // The judge of a formula's text (document 02, card 1): it goes through the prefix one boolean at a time and calls itself for the rest. It
 // is handed the text and nothing else. A branch ends where a clause has all its booleans decided and is false; a call looks only at the
 // clauses whose last boolean was just decided. It rests on `formula_index` and `formula_theory`. `judge_text` is for `formula_entries`.
+#![tactic(auto)]
+
 ghost use Rattle.std.specs.Prelude.{◌≡◌, ℕ, ◌+◌, ◌≤◌, ◌<◌, ◌^◌, min, eqb, get_or, length, set};
 ghost use Rattle.formula.specs.Formula.{clause_holds, judge_formula};
 ghost use Rattle.formula.specs.Text.{literals_at, read_text};

@@ -1,6 +1,8 @@
 // The text of a problem's formula, put into a buffer as far as it reaches (document 02, card 1). It works on the decoded arrays. It rests
 // on `formula_clauses`, `formula_words`, `formula_theory`, `solver_arrays` and `buffer`. `measure` and `put_formula` are for
 // `formula_entries`.
+#![tactic(auto)]
+
 ghost use Rattle.std.specs.Prelude.{◌≡◌, ◌≤◌, ◌<◌};
 ghost use Rattle.buffer.specs.Put.{Put};
 ghost use Rattle.formula.specs.Text.{header_text};

@@ -10,7 +10,7 @@ use solver_arrays::Variables;
 
 // Of a variable: its side, how many booleans come before its own, how many values it has, how many booleans it becomes, how many ways
 // stand for its values, its domain.
-#[derive(Drop)]
+#[derive(Clone, Copy)]
 pub struct Coded {
     pub universal: bool,
     pub base: usize,

@@ -1,5 +1,7 @@
 // The booleans that stand for the values of a variable, and literals over them, put into a buffer as far as it reaches. It rests on
 // `formula`, `solver_arrays` and `buffer`. Everything here is for `formula_clauses` and `formula_text`.
+#![tactic(auto)]
+
 mod coded;
 mod literals;
 

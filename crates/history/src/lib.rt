@@ -1,6 +1,8 @@
 // Call histories (document 00, demand 3): calls one after another from the fresh position, then the marks and the open values of the
 // position reached. It rests on `session` and `marking`. `replay` is open to callers; it runs the very entries `play`, `take_back`,
 // `mark` and `open_values`.
+#![tactic(auto)]
+
 ghost use Rattle.std.specs.Prelude.{◌≡◌, length};
 ghost use Rattle.refusal.specs.declared.Verdict.TheVariants.{Fine};
 ghost use Rattle.file_records.specs.Records.{verdict_of};
@@ -14,7 +16,7 @@ use position::{Position, fresh};
 use session::{Opened, open_values, play, take_back};
 
 // What marking and the open values reply at the position reached.
-#[derive(Drop)]
+#[derive(Clone, Copy)]
 pub struct Replayed {
     pub marks: Marked,
     pub opened: Opened,

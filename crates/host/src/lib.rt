@@ -1,6 +1,8 @@
 // The entries for a C host (include/kickballbox.h): every call of the product over byte slices and numbers, each number 64 bits wide, the
 // reply a struct by value. Each is a thin call of the entry that it names. It rests on `host_replies` and on the crates of these entries.
 // Open to callers; none has a `requires`, since nothing checks a C caller.
+#![tactic(auto)]
+
 ghost use Rattle.std.specs.Prelude.{◌≡◌, length};
 ghost use Rattle.file_reader.specs.Reading.{header_of, domains_of};
 ghost use Rattle.file_lookup.specs.Lookup.{look_up};

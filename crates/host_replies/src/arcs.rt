@@ -7,7 +7,7 @@ use rule_entries::Ruled;
 
 // Whether rule 1 found a loss.
 #[repr(C)]
-#[derive(Drop)]
+#[derive(Clone, Copy)]
 pub struct RuledList {
     pub kind: u64,
     pub number: u64,

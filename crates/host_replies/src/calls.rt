@@ -7,7 +7,7 @@ use position::Position;
 use session::{Answer, Opened, Played};
 
 #[repr(C)]
-#[derive(Drop)]
+#[derive(Clone, Copy)]
 pub struct CallAnswer {
     pub kind: u64,
     pub number: u64,
@@ -16,14 +16,14 @@ pub struct CallAnswer {
 
 // An answer, and the position that the call leads to.
 #[repr(C)]
-#[derive(Drop)]
+#[derive(Clone, Copy)]
 pub struct MovedPosition {
     pub answer: CallAnswer,
     pub position: Position,
 }
 
 #[repr(C)]
-#[derive(Drop)]
+#[derive(Clone, Copy)]
 pub struct OpenMasks {
     pub kind: u64,
     pub number: u64,

@@ -7,7 +7,7 @@ use rule_entries::Check;
 
 // Whether rule 2 found a loss, and the variable that it names.
 #[repr(C)]
-#[derive(Drop)]
+#[derive(Clone, Copy)]
 pub struct CheckedList {
     pub kind: u64,
     pub number: u64,

@@ -11,7 +11,7 @@ use file_reader::{Header, rules_used};
 use file_writer::Written;
 
 #[repr(C)]
-#[derive(Drop)]
+#[derive(Clone, Copy)]
 pub struct ReadFile {
     pub kind: u64,
     pub number: u64,
@@ -26,7 +26,7 @@ pub struct ReadFile {
 
 // Whether a constraint joins two variables, and the place of its first row byte.
 #[repr(C)]
-#[derive(Drop)]
+#[derive(Clone, Copy)]
 pub struct FoundRows {
     pub kind: u64,
     pub number: u64,
@@ -37,7 +37,7 @@ pub struct FoundRows {
 
 // How many bytes were written.
 #[repr(C)]
-#[derive(Drop)]
+#[derive(Clone, Copy)]
 pub struct WrittenBytes {
     pub kind: u64,
     pub number: u64,

@@ -7,7 +7,7 @@ use formula_entries::JudgedFormula;
 
 // Whether the formula is won, and how many bytes its text has.
 #[repr(C)]
-#[derive(Drop)]
+#[derive(Clone, Copy)]
 pub struct FormulaJudgement {
     pub kind: u64,
     pub number: u64,

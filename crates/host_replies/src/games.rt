@@ -12,7 +12,7 @@ use judging::{Judged, Searched};
 use marking::Marked;
 
 #[repr(C)]
-#[derive(Drop)]
+#[derive(Clone, Copy)]
 pub struct Judgement {
     pub kind: u64,
     pub number: u64,
@@ -21,7 +21,7 @@ pub struct Judgement {
 }
 
 #[repr(C)]
-#[derive(Drop)]
+#[derive(Clone, Copy)]
 pub struct Marks {
     pub kind: u64,
     pub number: u64,
@@ -32,14 +32,14 @@ pub struct Marks {
 
 // The replies of marking and of the open values.
 #[repr(C)]
-#[derive(Drop)]
+#[derive(Clone, Copy)]
 pub struct ReplayedCalls {
     pub marks: Marks,
     pub opened: OpenMasks,
 }
 
 #[repr(C)]
-#[derive(Drop)]
+#[derive(Clone, Copy)]
 pub struct SearchFindings {
     pub kind: u64,
     pub number: u64,

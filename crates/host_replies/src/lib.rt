@@ -1,6 +1,8 @@
 // What the entries for a C host reply, and how each answer of the crates below becomes such a reply. `kind` is 0 for a finished reply,
 // 1 for a refusal by number, 2 for a file's refusal with number and place; a field that says nothing is 0. It rests on the crates of
 // these answers. Every function here is for `host`, whose replies the structs are.
+#![tactic(auto)]
+
 mod arcs;
 mod calls;
 mod checks;

@@ -7,7 +7,7 @@ use rule_entries::Look;
 
 // Whether rule 3 found a loss, and the value and the variable that it names.
 #[repr(C)]
-#[derive(Drop)]
+#[derive(Clone, Copy)]
 pub struct LookedAhead {
     pub kind: u64,
     pub number: u64,

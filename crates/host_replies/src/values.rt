@@ -6,7 +6,7 @@ ghost use Rattle.host_replies.specs.Replies.{values_of};
 use rule_entries::Values;
 
 #[repr(C)]
-#[derive(Drop)]
+#[derive(Clone, Copy)]
 pub struct ValueMask {
     pub kind: u64,
     pub number: u64,

@@ -1,6 +1,8 @@
 // The judging program: a problem file on standard input, what document 01 shows for G1 on standard output, by `reporting`. The longest
 // file has 17,994 bytes (`longest`, file_reader/proofs/Longest.antt), and at most one byte more is read: the first 17,995 bytes of any
 // input have the text of all of it (`report_tail`, reporting/proofs/LongInput.antt).
+#![tactic(auto)]
+
 ghost use Rattle.std.specs.Prelude.{◌≤◌, length};
 
 use reporting::report_file;

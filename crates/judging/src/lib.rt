@@ -1,5 +1,7 @@
 // Searching and judging a position: all that a search finds, and whether the game is won. It rests on `file_decoder`, `position` and
 // `search_run`. `search` and `judge` are open to callers; `room_test` is for `marking`.
+#![tactic(auto)]
+
 ghost use Rattle.std.specs.Prelude.{◌≡◌, cond, [], ◌∷◌, length};
 ghost use Rattle.refusal.specs.Told.{replied};
 ghost use Rattle.search_run.specs.Run.{Searchable};
@@ -19,7 +21,7 @@ use tests::place_test;
 pub use tests::room_test;
 
 // What judging replies: won or lost; refused by number; the file's refusal with its place.
-#[derive(Drop)]
+#[derive(Clone, Copy)]
 pub enum Judged {
     Won,
     Lost,
@@ -29,7 +31,7 @@ pub enum Judged {
 
 // What a search replies: the verdict, or why it is refused; whether the rules of the first turn found a loss, and the list
 // that they reached; the conflict set of a lost search, the leaf of a won one. What is not found is zero.
-#[derive(Drop)]
+#[derive(Clone, Copy)]
 pub struct Searched {
     pub judged: Judged,
     pub loss: bool,

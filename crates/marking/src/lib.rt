@@ -1,5 +1,7 @@
 // Marks: which values of a position's next variable win when played, each searched by itself. It rests on `file_decoder`, `search_run`
 // and the tests of `judging`. `mark` is open to callers.
+#![tactic(auto)]
+
 ghost use Rattle.std.specs.Prelude.{◌≡◌, length};
 ghost use Rattle.search_run.specs.Run.{Searchable};
 ghost use Rattle.marking.specs.Marking.{told, mark_place_test, mark_told, mark_left, MarksWith, MarksIn};
@@ -17,7 +19,7 @@ use values::winning_values;
 
 // What marking replies: the winning values and the domain of the next variable; refused by number; the file's refusal with
 // its place.
-#[derive(Drop)]
+#[derive(Clone, Copy)]
 pub enum Marked {
     Values(u16, u16),
     Refused(u8),

@@ -11,7 +11,7 @@ use search_run::{Start, run};
 use solver_arrays::{Index, Near, Rows};
 
 // The winning values of a position's next variable, and its domain.
-#[derive(Drop)]
+#[derive(Clone, Copy)]
 pub struct Marks {
     pub winning: u16,
     pub domain: u16,

@@ -1,5 +1,7 @@
 // Sets of values as masks: bit k of a mask stands for value k. A domain is a mask of 16 bits, a set of variables one of 32. It rests
 // on no other crate. Every function here is for the other crates of this repository.
+#![tactic(auto)]
+
 ghost use Rattle.std.specs.Prelude.{◌≡◌, ℕ, ◌<◌, ◌≤◌, ◌^◌, ltb};
 ghost use Rattle.std.specs.Int.Bits.{bit_and};
 ghost use Rattle.mask.specs.Range.{each, count, first};

@@ -1,5 +1,7 @@
 // Positions by value: the number of plays and 32 places. It rests on `mask`, `refusal` and the laws of `theory`. `fresh` is open to
 // callers; every other function is for the search and the session.
+#![tactic(auto)]
+
 ghost use Rattle.std.specs.Prelude.{◌≡◌, [], ◌≤◌, ◌<◌, T, length};
 ghost use Rattle.mask.specs.Mask.{bit};
 ghost use Rattle.position.specs.Position.{shown, pushed, popped, place_fits, fits_in, place_mask, Written};
@@ -9,7 +11,7 @@ use refusal::both;
 
 // The options played, in order of play, and zero elsewhere. C hosts hand it in and get it back.
 #[repr(C)]
-#[derive(Drop)]
+#[derive(Clone, Copy)]
 pub struct Position {
     pub plays: usize,
     pub values: [u8; 32],

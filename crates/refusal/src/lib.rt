@@ -1,11 +1,13 @@
 // How a call refuses: a chain of tests, of which the first that fails decides. A failed test gives document 01's number and a place
 // in the file; where a call refuses by number alone, the place is 0 and goes no further. It rests on no other crate. Every function
 // here is for the other crates of this repository.
+#![tactic(auto)]
+
 ghost use Rattle.std.specs.Prelude.{◌≡◌, ◌&&◌, ◌||◌};
 ghost use Rattle.refusal.specs.Chain.{◌then◌, need};
 
 // What a test says: fine, or refused with a number and a place.
-#[derive(Drop)]
+#[derive(Clone, Copy)]
 pub enum Verdict {
     Fine,
     Refused(u8, usize),

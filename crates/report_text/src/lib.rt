@@ -1,5 +1,7 @@
 // What the judging program prints, formed in a buffer (document 01, "G1 in hex"). It rests on `buffer`. `render_reply` and
 // `render_refusal` are for `reporting` and alone require that the text fits; proofs/TextLaws.antt says how long it is at most.
+#![tactic(auto)]
+
 ghost use Rattle.std.specs.Prelude.{◌≡◌, ◌++◌, ◌≤◌, length, drop};
 ghost use Rattle.report_text.specs.Text.{reply_text, refused_text};
 

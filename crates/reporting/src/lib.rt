@@ -1,5 +1,7 @@
 // What the judging program prints of the bytes of a file: document 01's lines, or the one line of a refusal. The room of the searches is
 // held here. It rests on `file_reader`, `judging`, `marking` and `report_text`. `report_file` is for the program `judge`.
+#![tactic(auto)]
+
 ghost use Rattle.std.specs.Prelude.{◌≡◌, ◌++◌, ◌≤◌, length, drop};
 ghost use Rattle.reporting.specs.Reporting.{report_of, ReportsAccepted};
 
@@ -11,7 +13,7 @@ use opening::{first_marks, is_won};
 use report_text::{render_refusal, render_reply};
 
 // The winning values of the first variable, and its domain.
-#[derive(Drop)]
+#[derive(Clone, Copy)]
 pub struct First {
     pub winning: u16,
     pub domain: u16,

@@ -1,5 +1,7 @@
 // Rule 1 on the words of a turn: dead values are removed (`rule_arc_passes`), then the loss and its conflict set are read off what is
 // left. It rests on `solver_arrays` too. `arc` is for `rule_entries` and `search_rules`.
+#![tactic(auto)]
+
 ghost use Rattle.std.specs.Prelude.{◌≡◌, ◌&&◌, ℕ, ◌<◌, ◌≤◌, T, length};
 ghost use Rattle.mask.specs.Mask.{bit};
 ghost use Rattle.mask.specs.Range.{first};
@@ -12,7 +14,7 @@ use rule_arc_passes::{remove_dead, supported_of};
 use solver_arrays::{Index, Near, Rows, common, reason};
 
 // What rule 1 replies: whether the game is lost, and then a set of variables that it is lost because of.
-#[derive(Drop)]
+#[derive(Clone, Copy)]
 pub struct Outcome {
     pub loss: bool,
     pub conflict: u32,

@@ -1,6 +1,8 @@
 // Rule 1's removals on the words of a turn: dead values go, and the reasons of what loses values grow. Whole masks at a time; a variable
 // looks again only at neighbours that lost values since it looked (proofs/Waiting.antt: the other looks change nothing). It rests on
 // `solver_arrays`. `remove_dead` and `supported_of` are for `rule_arc`.
+#![tactic(auto)]
+
 ghost use Rattle.std.specs.Prelude.{◌≡◌, ◌&&◌, ltb, ◌<◌, ◌≤◌, length};
 ghost use Rattle.mask.specs.Mask.{bit};
 ghost use Rattle.std.specs.Int.Bits.{bit_and};

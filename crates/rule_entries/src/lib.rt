@@ -1,5 +1,7 @@
 // Rules 1 to 5 alone, on a lent list of n masks: each call reads the file first, then tests what it is lent. It rests on `file_decoder`,
 // `rule_lend` and the crates of these rules. `arc`, `forward_check`, `look_ahead`, `pure` and `interchangeable` are open to callers.
+#![tactic(auto)]
+
 ghost use Rattle.std.specs.Prelude.{◌≡◌};
 ghost use Rattle.rule_entries.specs.Alone.{told, told_check, told_look, told_values, arc_told, arc_left, forward_told, forward_left, ahead_told, pure_told, interchangeable_told};
 
@@ -14,7 +16,7 @@ use narrow_alone::{interchangeable_in, pure_in};
 use solver_arrays::ROWS;
 
 // What rule 1 replies: no loss, a loss; refused by number; the file's refusal with its place.
-#[derive(Drop)]
+#[derive(Clone, Copy)]
 pub enum Ruled {
     Stands,
     Lost,
@@ -23,7 +25,7 @@ pub enum Ruled {
 }
 
 // What rule 2 replies: no loss; a loss, with the lowest later variable that is emptied or holds a clash; or a refusal.
-#[derive(Drop)]
+#[derive(Clone, Copy)]
 pub enum Check {
     Stands,
     Lost(usize),
@@ -32,7 +34,7 @@ pub enum Check {
 }
 
 // What rule 3 replies: no loss; a loss, with the smallest value whose check loses and the variable that this check names; or a refusal.
-#[derive(Drop)]
+#[derive(Clone, Copy)]
 pub enum Look {
     Stands,
     Lost(usize, usize),
@@ -41,7 +43,7 @@ pub enum Look {
 }
 
 // What rules 4 and 5 reply: a mask of values, or a refusal.
-#[derive(Drop)]
+#[derive(Clone, Copy)]
 pub enum Values {
     Mask(u16),
     Refused(u8),

@@ -1,5 +1,7 @@
 // Rules 2 and 3, forward check and look ahead, on the words of a turn. It rests on `solver_arrays`. Every public function here is for
 // `rule_entries` and `search_rules`.
+#![tactic(auto)]
+
 ghost use Rattle.std.specs.Prelude.{◌≡◌, ◌≤◌, ◌<◌, ◌^◌, length};
 ghost use Rattle.std.specs.Int.Bits.{bit_or};
 ghost use Rattle.solver_arrays.specs.Arrays.{InRange};

@@ -102,7 +102,7 @@ fn noted(m: u32, j: usize, old: u16, new: u16) -> u32
 }
 
 // What a check finds: the lowest variable where it fails, or n; and the variables that lost values.
-#[derive(Drop)]
+#[derive(Clone, Copy)]
 pub struct Checked {
     pub named: usize,
     pub narrowed: u32,
@@ -182,7 +182,7 @@ pub fn tried(universal: u32, i: usize, w: &[u16]) -> u16
 }
 
 // A value of a universal variable whose forward check is a loss, and the variable that this loss names.
-#[derive(Drop)]
+#[derive(Clone, Copy)]
 pub struct Ahead {
     pub value: usize,
     pub variable: usize,

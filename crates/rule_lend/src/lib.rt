@@ -1,5 +1,7 @@
 // What is tested of a lent list, and its way into the words of a turn and back. It rests on `refusal` and `solver_arrays`. The public
 // functions are for `rule_entries`.
+#![tactic(auto)]
+
 ghost use Rattle.std.specs.Prelude.{◌≡◌, true, ◌≤◌, length, replicate};
 ghost use Rattle.mask.specs.Range.{each};
 ghost use Rattle.solver_arrays.specs.Words.{list_in};

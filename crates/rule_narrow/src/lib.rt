@@ -1,5 +1,7 @@
 // Rules 4 and 5 on the words of a turn: the masks that they reply at a variable, and its domain narrowed by them. Only neighbours are
 // looked at. It rests on `solver_arrays`. Every public function here is for `rule_entries` and `search_steps`.
+#![tactic(auto)]
+
 ghost use Rattle.std.specs.Prelude.{◌≡◌, cond, ◌<◌, ◌≤◌, ◌^◌, length};
 ghost use Rattle.mask.specs.Mask.{bit, mask_of};
 ghost use Rattle.game.specs.Pure.{lowest as smallest};

@@ -1,18 +1,20 @@
 // Rule sets: which of the seven search rules a search uses, as the sum of their numbers (document 01, "The seven rules"). It rests on
 // `mask` and `refusal`. `RuleSet` with its constants, `new`, `number` and `uses` is open to callers.
+#![tactic(auto)]
+
 ghost use Rattle.std.specs.Prelude.{◌≡◌, [], ◌∷◌};
 ghost use Rattle.rule_set.specs.RuleSet.{plain_set, usual_set, full_set, is_rule_set, uses, rule_set_of, told};
 
 use mask::contains;
 
 // A rule set. Its number is behind the constructor and the constants: other crates make none of their own.
-#[derive(Drop)]
+#[derive(Clone, Copy)]
 pub struct RuleSet {
     bits: u8,
 }
 
 // A rule set, or refused by number.
-#[derive(Drop)]
+#[derive(Clone, Copy)]
 pub enum Chosen {
     Set(RuleSet),
     Refused(u8),

@@ -1,6 +1,8 @@
 // Rule 7 on the words of a turn: of some values of its variable i those that a leaf lets it skip, all at once. `later` is the mask of
 // the universal variables above i. Only neighbours are looked at. It rests on `solver_arrays`. The public functions are for
 // `search_steps`.
+#![tactic(auto)]
+
 ghost use Rattle.std.specs.Prelude.{◌≡◌, ◌<◌, ◌≤◌, length, get_or};
 ghost use Rattle.std.specs.Int.Bits.{bit_and};
 ghost use Rattle.mask.specs.Mask.{bit};

@@ -1,5 +1,7 @@
 // The end of a line of play, over the words of a turn in which every variable has one value: whether a constraint is broken, and the
 // leaf that is handed up. Only neighbours are looked at. It rests on `solver_arrays`. The public functions are for `search_steps`.
+#![tactic(auto)]
+
 ghost use Rattle.std.specs.Prelude.{◌≡◌, ◌<◌, ◌≤◌, length};
 ghost use Rattle.solver_arrays.specs.Arrays.{InRange};
 ghost use Rattle.search_leaf.specs.Leaf.{value_of, clashes, first_clash, Tells, with_leaf};

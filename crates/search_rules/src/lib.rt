@@ -1,6 +1,8 @@
 // Rules 2, 1 and 3 of a turn by its rule set, one after another: a loss ends the turn. Below another turn rule 1 looks only at what
 // changed since, and rule 3 is left out beside rule 1. It rests on `rule_forward` and `rule_arc`. `run_rules` is for `search_steps`, and
 // for the trials.
+#![tactic(auto)]
+
 ghost use Rattle.std.specs.Prelude.{◌≡◌, true, not, ◌&&◌, ◌≤◌, ◌<◌, ltb, length};
 ghost use Rattle.game.specs.Rule.{uses};
 ghost use Rattle.solver_arrays.specs.Arrays.{InRange};
@@ -16,7 +18,7 @@ use solver_arrays::{Index, Near, Rows};
 
 // What the rules of a turn say: a loss with its conflict set, or none; and the variables other than the plays that rule 2
 // took values from.
-#[derive(Drop)]
+#[derive(Clone, Copy)]
 pub struct Said {
     pub loss: bool,
     pub conflict: u32,
@@ -24,7 +26,7 @@ pub struct Said {
 }
 
 // What stays from turn to turn of a search: how many variables, which are universal, the rule set.
-#[derive(Drop)]
+#[derive(Clone, Copy)]
 pub struct Setting {
     pub n: usize,
     pub universal: u32,

@@ -1,6 +1,8 @@
 // One inner run: the search from a position, with the list that the rules of its first turn reach, and the room that it takes. It rests
 // on `search_turns`, `search_steps` and `position`. Every public function is for `judging` and `marking`, `ROOM` for `host` and
 // `reporting`.
+#![tactic(auto)]
+
 ghost use Rattle.std.specs.Prelude.{◌≡◌, cond, ◌≤◌, length};
 ghost use Rattle.search_words.specs.TurnRoom.{zeroed};
 ghost use Rattle.search_steps.specs.TurnReply.{room_of};
@@ -18,7 +20,7 @@ use search_words::zero_words;
 use solver_arrays::{Index, Near, Rows, Variables};
 
 // What a run starts from.
-#[derive(Drop)]
+#[derive(Clone, Copy)]
 pub struct Start {
     pub variables: Variables,
     pub set: RuleSet,
@@ -26,7 +28,7 @@ pub struct Start {
 }
 
 // What a search from a position comes to: what the rules of the first turn reached, and the outcome.
-#[derive(Drop)]
+#[derive(Clone, Copy)]
 pub struct Ran {
     pub loss: bool,
     pub list: [u16; 32],

@@ -1,6 +1,8 @@
 // The steps of a turn of the search: its rules, what is left to try after a value, what is handed up; and the last turn, where all
 // variables are played. It rests on `search_rules`, `rule_narrow`, `rule_skip`, `search_words` and `search_leaf`. Every public function is
 // for `search_turns`; `Outcome` and `last_turn` are for `search_run` too.
+#![tactic(auto)]
+
 ghost use Rattle.std.specs.Prelude.{◌≡◌, true, false, cond, not, ◌&&◌, ◌≤◌, ◌<◌, eqb, length};
 ghost use Rattle.mask.specs.Mask.{bit};
 ghost use Rattle.game.specs.Rule.{uses};
@@ -23,7 +25,7 @@ use search_words::{clear_below, handed, take_leaf, zero_words};
 use solver_arrays::{Index, Near, Rows};
 
 // What a turn hands up: whether its rules found a loss; won, with its leaf in the words, or lost with a conflict set.
-#[derive(Drop)]
+#[derive(Clone, Copy)]
 pub struct Outcome {
     pub loss: bool,
     pub won: bool,
@@ -94,7 +96,7 @@ pub fn last_turn(
 }
 
 // What the rules of a turn come to: a loss with its conflict set; or the values to try, and whether rules 4 and 5 narrowed them.
-#[derive(Drop)]
+#[derive(Clone, Copy)]
 pub struct Entered {
     pub lost: bool,
     pub conflict: u32,

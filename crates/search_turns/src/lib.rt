@@ -1,6 +1,8 @@
 // The search: two turns, one per side, that call each other until no variable is left, each in the words that it is lent (laid out as
 // `search_words` says). A turn leaves in them the list that its rules reached; who lent them zeroes them. It rests on `search_steps` and
 // `search_words`. Both turns are for `search_run`.
+#![tactic(auto)]
+
 ghost use Rattle.std.specs.Prelude.{◌≡◌, true, false, ◌≤◌, ◌<◌, length};
 ghost use Rattle.mask.specs.Mask.{bit};
 ghost use Rattle.solver_arrays.specs.Arrays.{InRange};

@@ -1,6 +1,8 @@
 // The session's core by value: a play, a take-back and the open values of a position. Each call reads the file first, then tests the
 // position, then its argument. It rests on `file_reader`, `file_decoder` and `position`. `play`, `take_back` and `open_values` are open
 // to callers.
+#![tactic(auto)]
+
 ghost use Rattle.std.specs.Prelude.{◌≡◌};
 ghost use Rattle.session.specs.Told.{told, play_told, play_left, take_back_told, take_back_left};
 ghost use Rattle.session.specs.Told.{told_opened, open_told, masks_shown, counts_shown};
@@ -16,7 +18,7 @@ use position::Position;
 use solver_arrays::{ROWS, Variables};
 
 // What a call answers: done; refused by number; the file's refusal with its place.
-#[derive(Drop)]
+#[derive(Clone, Copy)]
 pub enum Answer {
     Done,
     Refused(u8),
@@ -24,7 +26,7 @@ pub enum Answer {
 }
 
 // What a play or a take-back answers, and the position that it leads to; a refused call returns the one that it was given.
-#[derive(Drop)]
+#[derive(Clone, Copy)]
 pub struct Played {
     pub answer: Answer,
     pub position: Position,
@@ -32,7 +34,7 @@ pub struct Played {
 
 // The open values of each variable, those still usable, as a mask, and how many they are. Zero at n and above, and where the call is
 // refused.
-#[derive(Drop)]
+#[derive(Clone, Copy)]
 pub struct Opened {
     pub answer: Answer,
     pub masks: [u16; 32],

@@ -1,6 +1,8 @@
 // The solver's arrays, the variables that they speak of, and the words of a turn: rows in either direction and whole masks of them,
 // neighbours, reasons, the values that go with plays. What arrays state of a problem is in specs/Arrays.antt. It rests on `mask`, `game`
 // and `theory`. Types and functions are for decoding, the rules, the search and the open values.
+#![tactic(auto)]
+
 ghost use Rattle.std.specs.Prelude.{◌≡◌, ◌<◌};
 ghost use Rattle.solver_arrays.specs.Arrays.{row_in, common_in, InRange};
 
@@ -25,7 +27,7 @@ pub const ROWS: usize = 15888;
 pub type Words = [u16; 128];
 
 // The variables that the arrays speak of: how many, which are universal, and their domains.
-#[derive(Drop)]
+#[derive(Clone, Copy)]
 pub struct Variables {
     pub n: usize,
     pub universal: u32,

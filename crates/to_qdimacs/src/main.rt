@@ -1,6 +1,8 @@
 // A problem file on standard input, the text of its formula (QDIMACS) on standard output, by `formula_entries`; a refused file gives the
 // judging program's one line. The longest file has 17,994 bytes (`longest`, file_reader/proofs/Longest.antt), and at most one byte more is
 // read: the first 17,995 bytes of any input are refused as all of it is (`reply_tail` there).
+#![tactic(auto)]
+
 use formula_entries::{WrittenFormula, write_formula};
 use report_text::render_refusal;
 

@@ -1,6 +1,8 @@
 // Makes the stored calls: plays, take-backs, marks, open values and judgements. stdin is the first quarter of cases/calls.bin: the number
 // of calls, then for each a file, a position, a kind of call with its argument and room, and what it answers. It rests on `session`,
 // `trial_stored` and `trial_vectors`.
+#![tactic(auto)]
+
 mod stored;
 
 use position::Position;

@@ -6,7 +6,7 @@ use trial_vectors::{Answer, byte, place, refused, refused_at, replied, word};
 
 // A file, a position, the kind of call with its argument and the words lent, what it answers, where the answer's bytes stand, and the
 // next call.
-#[derive(Drop)]
+#[derive(Clone, Copy)]
 pub struct Call {
     pub start: usize,
     pub length: usize,

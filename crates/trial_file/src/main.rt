@@ -1,6 +1,8 @@
 // Runs reader, look-up and writer over stored files, and the reader over document 01's boundary rows. stdin is the first quarter of
 // cases/reading.bin: the number of cases, then for each a file, the number of its refusal, 0 for an accepted file, and the place. It rests
 // on `file_reader`, `file_lookup`, `file_writer` and `trial_vectors`.
+#![tactic(auto)]
+
 mod back;
 mod boundary;
 mod pairs;

@@ -1,6 +1,8 @@
 // Judges, marks and opens stored games. stdin is the first quarter of cases/game.bin: the number of games, then for each a file, plays,
 // the verdict, the marks and the open values. Each game is judged and marked under every rule set, with up to 127 words of dirty room
 // more than needed, and once with one word too few. It rests on `trial_stored` and `trial_vectors`.
+#![tactic(auto)]
+
 mod stored;
 
 use position::Position;

@@ -6,7 +6,7 @@ use trial_stored::position_at;
 use trial_vectors::{Answer, byte, first_variable, part, place, refused, replied, word};
 
 // A file, a position, what judging and marking answer, where the open values stand, and the next game.
-#[derive(Drop)]
+#[derive(Clone, Copy)]
 pub struct Game {
     pub start: usize,
     pub length: usize,

@@ -1,6 +1,8 @@
 // Runs the five rules alone over stored cases, and drives every refusal of the five calls. stdin is the first quarter of cases/rules.bin:
 // the number of cases, then for each a file, a list of n masks, what arc tells and leaves, a variable and a value, what the forward check
 // tells and leaves, and what look ahead, pure and interchangeable tell. It rests on `rule_entries` and `trial_vectors`.
+#![tactic(auto)]
+
 ghost use Rattle.std.specs.Prelude.{◌≤◌};
 
 mod answers;

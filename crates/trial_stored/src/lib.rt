@@ -1,5 +1,7 @@
 // What the trials of stored calls and of stored games share: stored positions, the kinds of call, judging and marking in a dirty room,
 // and open values beside stored ones. It rests on `session`, `judging`, `marking` and `trial_vectors`. For the trial programs alone.
+#![tactic(auto)]
+
 mod calls;
 mod positions;
 mod rooms;

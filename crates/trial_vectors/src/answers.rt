@@ -2,7 +2,7 @@
 use refusal::both;
 
 // Kind 0 is a reply of at most two numbers, 1 a refusal by number alone, 2 a file's refusal with its number and place.
-#[derive(Drop)]
+#[derive(Clone, Copy)]
 pub struct Answer {
     pub kind: usize,
     pub first: usize,

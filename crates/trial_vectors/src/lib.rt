@@ -1,6 +1,8 @@
 // What the trial programs share: standard input, numbers and parts of stored cases, answers as numbers, a tally of cases, and the lines
 // of a report. Every read is total: a byte past the end is 0, a part that is not there is empty. It rests on `refusal` and on the kit's
 // `io`. For the trial programs alone.
+#![tactic(auto)]
+
 ghost use Rattle.std.specs.Prelude.{◌≡◌, ◌≤◌, ◌<◌, length};
 
 mod answers;
@@ -9,7 +11,7 @@ pub use answers::{Answer, refused, refused_at, replied, same_answer};
 use refusal::both;
 
 // How far a trial has come: where the next case begins, and how many cases were compared and differed.
-#[derive(Drop)]
+#[derive(Clone, Copy)]
 pub struct Tally {
     pub at: usize,
     pub compared: usize,
