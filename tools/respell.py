@@ -128,14 +128,28 @@ def imported(text):
     return names
 
 
+def foreign(text, crates):
+    """The names that a file imports from libraries of the kit: they keep their spelling, in that file."""
+    names = set()
+    for m in re.finditer(r"(?m)^\s*(?:ghost )?use ([^\s{]*)\.\{([^}]*)\}", text):
+        parts = m.group(1).split(".")
+        if not (parts[0] == "Rattle" and len(parts) > 1 and parts[1] in crates):
+            names |= {w.strip() for part in m.group(2).split(",") for w in part.split(" as ")}
+    return names
+
+
 def main(dry):
-    new, found = table()
+    table_of_all, found = table()
+    new = table_of_all
+    crates = set(os.listdir("crates"))
     if dry:
         for old, now in sorted(new.items()):
             print(old, now)
         return
     for path in files((".antt", ".rt", ".edit")):
         text = open(path, encoding="utf-8").read()
+        kept = foreign(text, crates)
+        new = {o: n for o, n in table_of_all.items() if o not in kept}
         if path.endswith(".rt"):
             now = clauses(text, new)
         elif path.endswith(".edit"):
@@ -152,6 +166,7 @@ def main(dry):
             now = in_code(text, new, "--")
         if now != text:
             open(path, "w", encoding="utf-8").write(now)
+    new = table_of_all
     for top in ("docs", "README.md", "crates.txt", "cases/README.md"):
         for path in files(".md", top) if os.path.isdir(top) else [top]:
             if os.path.isfile(path) and "landings" not in path:

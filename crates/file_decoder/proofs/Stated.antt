@@ -1,7 +1,7 @@
 -- The arrays of an accepted file state its problem: what the constraints' numbers give by the index is what the look-up finds.
 use Prim.Native.Nat.{ℕ, ◌+◌, ◌*◌, ◌≤◌, ◌<◌}
 use mathlib.Core.Path.{◌≡◌, refl, sym, ap, ap₂, ◌∙◌}
-use mathlib.Core.Bool.{Bool, true, false, ◌||◌, or_false, false≢true}
+use mathlib.Core.Bool.{Bool, true, false, ◌||◌, or-false, false≢true}
 use mathlib.Core.List.{List}
 use lib.ListN.{length, get_or, take, replicate, length-replicate, get_or-replicate, get_or-eq_default}
 use native.Mathlib.Omega.{arith}
@@ -98,7 +98,7 @@ module _ (f : List ℕ) (fine : verdict_of f ≡ Fine) where
   joined : (u v : ℕ) → constrained_of f u v ≡ bit (get_or near_all u 0) v
   joined u v =
       constrained_is f fine u v
-      ∙ sym (near_joins near_start f q m near_size stand m u v (omega arith) ∙ ap (λ r. some m (λ t. true) (joins f q u v) || r) (near_zero u v) ∙ or_false (some m (λ t. true) (joins f q u v)))
+      ∙ sym (near_joins near_start f q m near_size stand m u v (omega arith) ∙ ap (λ r. some m (λ t. true) (joins f q u v) || r) (near_zero u v) ∙ or-false (some m (λ t. true) (joins f q u v)))
 
   inside : (u v : ℕ) → n_of f ≤ v → bit (get_or near_all u 0) v ≡ bit 0 v
   inside u v h = sym (joined u v) ∙ fails (λ g. let b = constrained_below f fine u v g in omega arith) ∙ sym (bit_of_zero v)

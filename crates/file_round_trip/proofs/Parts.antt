@@ -1,7 +1,7 @@
 -- The bytes of each record of an accepted file are the part of the file where it stands, so all of them together are the file.
 use Prim.Native.Nat.{ℕ, zero, suc, ◌+◌, ◌*◌, ◌≤◌, ◌<◌}
 use mathlib.Core.Path.{◌≡◌, refl, sym, ap, ◌∙◌}
-use mathlib.Core.Bool.{Bool, true, false, cond, ◌||◌, or_false}
+use mathlib.Core.Bool.{Bool, true, false, cond, ◌||◌, or-false}
 use mathlib.Core.List.{List, [], ◌∷◌, ◌++◌}
 use lib.ListN.{length, get_or, take, drop, length-append}
 use lib.Seq.{drop-cons, take-add, drop-drop, take_all}
@@ -96,7 +96,7 @@ mark_part f p m e =
 variable_mark_lem : (f : List ℕ) (p : ℕ) (d : Bool) → marked f p VA ≡ d → (marked f p VE || d) ≡ true → marked f p (variable_mark d) ≡ true
 unfolding variable_mark
 variable_mark_lem f p true e h = e
-variable_mark_lem f p false e h = sym (or_false _) ∙ h
+variable_mark_lem f p false e h = sym (or-false _) ∙ h
 
 -- ---- the records of a file that is a list of bytes
 

@@ -1,6 +1,6 @@
 -- Laws of masks: made of a test, and read back from one; empty; met with a complement.
 use mathlib.Core.Path.{◌≡◌, refl, sym, ap, ap₂, ◌∙◌}
-use mathlib.Core.Bool.{Bool, true, false, cond, not, ◌&&◌, ◌||◌, or_false, or-true}
+use mathlib.Core.Bool.{Bool, true, false, cond, not, ◌&&◌, ◌||◌, or-false, or-true}
 use mathlib.Core.Bool.{and_assoc as Bool·and-assoc, or_assoc as Bool·or-assoc}
 use Prim.Native.Nat.{ℕ, zero, suc, ◌-◌, ◌/◌, ◌%◌, ◌^◌, ◌<◌}
 use native.Mathlib.Nat.{le_refl, pow-suc, lt_of_le_of_lt}
@@ -34,7 +34,7 @@ bit-mask_of (suc n) p k h = go (ℕ_discrete k n) (p n) refl (λ l. bit-mask_of 
     go : Dec (k ≡ n) → (b : Bool) → p n ≡ b → (k < n → bit (mask_of n p) k ≡ p k) → bit (cond b (bit_or (mask_of n p) (2 ^ n)) (mask_of n p)) k ≡ p k
     go (yes d) true e r = bit-bit_or (mask_of n p) (2 ^ n) k ∙ rw (bit_single n k, eq-eqb k n d, or-true (bit (mask_of n p) k)) (sym (ap p d ∙ e))
     go (yes d) false e r = bit_high n (mask_of n p) k (mask_of_lt n p) (omega arith) ∙ sym (ap p d ∙ e)
-    go (no d) true e r = bit-bit_or (mask_of n p) (2 ^ n) k ∙ rw (bit_single n k, ne_eqb k n d, or_false (bit (mask_of n p) k)) (r (omega arith))
+    go (no d) true e r = bit-bit_or (mask_of n p) (2 ^ n) k ∙ rw (bit_single n k, ne_eqb k n d, or-false (bit (mask_of n p) k)) (r (omega arith))
     go (no d) false e r = r (omega arith)
 
 -- The complement within n places.

@@ -1,6 +1,6 @@
 -- The lowest member of a mask and the rest: what a loop over the members of a mask goes by, at every width.
 use mathlib.Core.Path.{◌≡◌, refl, sym, ap, ◌∙◌, fun_ext, ap₂}
-use mathlib.Core.Bool.{Bool, true, false, cond, not, ◌&&◌, ◌||◌, and_true, and-false, beq}
+use mathlib.Core.Bool.{Bool, true, false, cond, not, ◌&&◌, ◌||◌, and-true, and-false, beq}
 use Prim.Native.Nat.{ℕ, zero, suc, ◌+◌, ◌-◌, ◌/◌, ◌%◌, ◌^◌, ◌≤◌, ◌<◌}
 use native.Mathlib.Nat.{pow-suc, lt_of_le_of_lt}
 use native.Mathlib.Numerals.{add-one}
@@ -136,7 +136,7 @@ some_below n a m f h =
 -- How many members of a mask are below a.
 pub count-below : (n a m : ℕ) → a ≤ n → count n (bit (bit_and m (2 ^ a - 1))) ≡ count a (bit m)
 count-below n a m h =
-    count_cut n a (bit (bit_and m (2 ^ a - 1))) (bit m) h (λ k l. met k ∙ ap (λ (b : Bool). bit m k && b) (lt-ltb k a l) ∙ and_true (bit m k))
+    count_cut n a (bit (bit_and m (2 ^ a - 1))) (bit m) h (λ k l. met k ∙ ap (λ (b : Bool). bit m k && b) (lt-ltb k a l) ∙ and-true (bit m k))
     (λ k l. met k ∙ ap (λ (b : Bool). bit m k && b) (le-ltb k a l) ∙ and-false (bit m k))
   where
     met : (k : ℕ) → bit (bit_and m (2 ^ a - 1)) k ≡ (bit m k && ltb k a)
@@ -164,7 +164,7 @@ module _ (v w m : ℕ) (h : m < 2 ^ w) (z : ¬ (m ≡ 0)) (f : ℕ → Bool) whe
   pub first_on : f (first w (bit m)) ≡ false → first v (λ k. bit m k && f k) ≡ first v (λ k. bit (rest m) k && f k)
   first_on e = first-agree v (λ k. bit m k && f k) (λ k. bit (rest m) k && f k) λ k _. by_eq k (first w (bit m))
       (λ d. rw (d, e, and-false (bit m (first w (bit m))), and-false (bit (rest m) (first w (bit m)))))
-      (λ d. rw (bit-rest w m h z k, ne_eqb k (first w (bit m)) d, and_true (bit m k)))
+      (λ d. rw (bit-rest w m h z k, ne_eqb k (first w (bit m)) d, and-true (bit m k)))
 
 -- An empty mask has no member that passes.
 pub first-empty : (w m : ℕ) (f : ℕ → Bool) → m ≡ 0 → first w (λ k. bit m k && f k) ≡ w

@@ -1,6 +1,6 @@
 -- Laws of tests over a range: `each` against a function, `some` against a witness; bounds of `count` and `first`.
 use mathlib.Core.Path.{◌≡◌, refl, sym, ap, ap₂, ◌∙◌}
-use mathlib.Core.Bool.{Bool, true, false, cond, not, ◌&&◌, ◌||◌, and-false, or_false}
+use mathlib.Core.Bool.{Bool, true, false, cond, not, ◌&&◌, ◌||◌, and-false, or-false}
 use Prim.Native.Nat.{ℕ, zero, suc, ◌≤◌, ◌<◌}
 use native.Mathlib.Nat.{le_refl}
 use native.Mathlib.Omega.{arith}
@@ -81,7 +81,7 @@ some_joint v d f =
 pub some_never : (v : ℕ) (d : ℕ → Bool) → some v d (λ a. false) ≡ false
 unfolding some
 some_never zero d = refl
-some_never (suc v) d = rw (some_never v d) (or_false (d v && false) ∙ and-false (d v))
+some_never (suc v) d = rw (some_never v d) (or-false (d v && false) ∙ and-false (d v))
 
 pub some_front : (v : ℕ) (d f : ℕ → Bool) (b : Bool) → (b && some v d f) ≡ some v d (λ a. b && f a)
 some_front v d f true = refl
@@ -212,7 +212,7 @@ first_some n d f = by_lt (first n (λ k. d k && f k)) n
 -- One number more is tested, with outcome b.
 pub first_more : (n : ℕ) (p q : ℕ → Bool) (j : ℕ) (b : Bool) → j < n → ((k : ℕ) → k < n → q k ≡ (p k || (eqb k j && b)))
     → cond (b && ltb j (first n p)) j (first n p) ≡ first n q
-first_more n p q j false h e = first-agree n p q λ k l. sym (e k l ∙ ap (λ (c : Bool). p k || c) (and-false (eqb k j)) ∙ or_false (p k))
+first_more n p q j false h e = first-agree n p q λ k l. sym (e k l ∙ ap (λ (c : Bool). p k || c) (and-false (eqb k j)) ∙ or-false (p k))
 first_more n p q j true h e = by_lt j (first n p)
     (λ l. rw (lt-ltb j (first n p) l)
     (sym (first_is n q j h (rw (e j h, eq-eqb j j refl) (or_right (p j) true tt)) λ i r. e i (omega arith) ∙ rw (first_least n p i (omega arith), ne_eqb i j (omega arith)))))

@@ -1,6 +1,6 @@
 -- Laws of `loop`: where its steps leave all as it is, what they keep and reach, and loops over the members of a mask.
 use mathlib.Core.Path.{◌≡◌, refl, sym, ap, ◌∙◌}
-use mathlib.Core.Bool.{Bool, true, false, cond, and_true, and-false}
+use mathlib.Core.Bool.{Bool, true, false, cond, and-true, and-false}
 use Prim.Native.Nat.{ℕ, zero, suc, ◌+◌, ◌-◌, ◌^◌, ◌≤◌, ◌<◌}
 use native.Mathlib.Omega.{arith}
 use lib.Dec.{T}
@@ -64,7 +64,7 @@ module _ {A : Type 0} where
       low = first w (bit m)
 
       rested : (k : ℕ) → ¬ (k ≡ low) → bit (rest m) k ≡ bit m k
-      rested k d = bit-rest w m h z k ∙ rw (ne_eqb k low d) (and_true (bit m k))
+      rested k d = bit-rest w m h z k ∙ rw (ne_eqb k low d) (and-true (bit m k))
 
       left_out : bit (rest m) low ≡ false
       left_out = bit-rest w m h z low ∙ rw (eq-eqb low low refl) (and-false (bit m low))

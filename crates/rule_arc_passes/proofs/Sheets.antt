@@ -1,6 +1,6 @@
 -- The removals of specs/Passes.antt are rule 1's: on words that hold a list and its reasons they leave words that hold `revisions` of them.
 use mathlib.Core.Path.{◌≡◌, refl, sym, ap, ap₂, subst, ◌∙◌}
-use mathlib.Core.Bool.{Bool, true, false, cond, not, ◌&&◌, ◌||◌, or_false, and_true, or-true}
+use mathlib.Core.Bool.{Bool, true, false, cond, not, ◌&&◌, ◌||◌, or-false, and-true, or-true}
 use mathlib.Core.Logic.{◌⊎◌, inl, inr}
 use mathlib.Core.List.{List}
 use Prim.Native.Nat.{ℕ, zero, suc, ◌*◌, ◌^◌, ◌≤◌, ◌<◌}
@@ -36,8 +36,8 @@ holding_sheet n w s = holding n w s.list s.why
 -- A mask with x noted differs at x alone, and has x where it lost values.
 pub noted_off : (dirty x : ℕ) (lost : Bool) (k : ℕ) → ¬ (k ≡ x) → bit (noted dirty x lost) k ≡ bit dirty k
 unfolding noted
-noted_off dirty x true k d = bit-bit_or dirty (2 ^ x) k ∙ rw (bit_single x k, ne_eqb k x d) (or_false (bit dirty k))
-noted_off dirty x false k d = bit-diff dirty (2 ^ x) k ∙ rw (bit_single x k, ne_eqb k x d) (and_true (bit dirty k))
+noted_off dirty x true k d = bit-bit_or dirty (2 ^ x) k ∙ rw (bit_single x k, ne_eqb k x d) (or-false (bit dirty k))
+noted_off dirty x false k d = bit-diff dirty (2 ^ x) k ∙ rw (bit_single x k, ne_eqb k x d) (and-true (bit dirty k))
 
 pub noted_on : (dirty x : ℕ) → T (bit (noted dirty x true) x)
 unfolding noted

@@ -1,6 +1,6 @@
 -- The check of one value, a variable at a time: what each step of the code leaves.
 use mathlib.Core.Path.{◌≡◌, refl, sym, ap, ap₂, ◌∙◌, fun_ext}
-use mathlib.Core.Bool.{Bool, true, false, cond, not, ◌&&◌, ◌||◌, and-false, and_true, and-not_self, or_false}
+use mathlib.Core.Bool.{Bool, true, false, cond, not, ◌&&◌, ◌||◌, and-false, and-true, and-not_self, or-false}
 use mathlib.Core.List.{List}
 use Prim.Native.Nat.{ℕ, ◌+◌, ◌-◌, ◌^◌, ◌≤◌, ◌<◌}
 use native.Mathlib.Omega.{arith}
@@ -107,7 +107,7 @@ passed_none m k = and-not_self (bit m k)
 
 passed_all : (m k : ℕ) → passed m 0 k ≡ bit m k
 unfolding passed
-passed_all m k = rw (bit_of_zero k) (and_true (bit m k))
+passed_all m k = rw (bit_of_zero k) (and-true (bit m k))
 
 passed_more : (m left : ℕ) → left < 2 ^ 32 → ¬ (left ≡ 0) → ((k : ℕ) → T (bit left k) → T (bit m k))
     → (k : ℕ) → passed m (rest left) k ≡ (passed m left k || eqb k (first 32 (bit left)))
@@ -221,7 +221,7 @@ module _ (universal : ℕ) (index rows : List ℕ) (x a n q : ℕ) (b : n ≤ 32
         (first 32 (bit left)) (failing universal index rows x a w (first 32 (bit left))) low_below
         λ k r. rw (passed_more m left h z p.within k) (by_eq k (first 32 (bit left))
         (λ e. rw (e, eq-eqb (first 32 (bit left)) (first 32 (bit left)) refl, passed-low m left h z))
-        (λ e. rw (ne_eqb k (first 32 (bit left)) e) (ap (λ (b : Bool). b && failing universal index rows x a w k) (or_false (passed m left k)) ∙ sym (or_false (passed m left k && failing universal index rows x a w k)))))
+        (λ e. rw (ne_eqb k (first 32 (bit left)) e) (ap (λ (b : Bool). b && failing universal index rows x a w k) (or-false (passed m left k)) ∙ sym (or-false (passed m left k && failing universal index rows x a w k)))))
 
     -- A turn of the loop, as the code has it: j is the lowest member left, and the names with a dash are those of the next turn.
     pub passing_turn : (j left' : ℕ) (lost : Bool) (v' : List ℕ) (named' : ℕ) → j ≡ first 32 (bit left) → left' ≡ rest left → lost ≡ failing universal index rows x a v j

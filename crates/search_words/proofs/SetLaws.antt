@@ -1,6 +1,6 @@
 -- Conflict sets: what a turn hands up, and what it starts with.
 use mathlib.Core.Path.{◌≡◌, refl, sym, ap, ap₂, subst, ◌∙◌, fun_ext}
-use mathlib.Core.Bool.{Bool, true, false, cond, not, ◌&&◌, ◌||◌, and_true, and-false}
+use mathlib.Core.Bool.{Bool, true, false, cond, not, ◌&&◌, ◌||◌, and-true, and-false}
 use mathlib.Core.List.{List}
 use Prim.Native.Nat.{ℕ, ◌-◌, ◌^◌, ◌≤◌, ◌<◌}
 use native.Mathlib.Omega.{arith}
@@ -39,7 +39,7 @@ module _ (d S e : ℕ) (h : d ≤ 32) (l : e < 2 ^ 32) (m : (k : ℕ) → bit e 
   unfolding handed
   handed_those = bit_ext 32 (bit_and S e) (mask_of d (λ j. not true || bit S j)) (let q = and_le_r S e in omega arith) (handed_lt _) λ k _.
       bit-bit_and S e k ∙ ap (λ (b : Bool). bit S k && b) (m k) ∙ by_lt k d
-      (λ q. rw (lt-ltb k d q) (and_true (bit S k) ∙ sym (bit-mask_of d (λ j. not true || bit S j) k q)))
+      (λ q. rw (lt-ltb k d q) (and-true (bit S k) ∙ sym (bit-mask_of d (λ j. not true || bit S j) k q)))
       (λ q. rw (le-ltb k d q) (and-false (bit S k) ∙ sym (bit_high d (mask_of d (λ j. not true || bit S j)) k (mask_of_lt d _) q)))
 
 -- The reasons of a mask's members, one by one ------------------------------------------------------------------

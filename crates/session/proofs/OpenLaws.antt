@@ -1,6 +1,6 @@
 -- Open values over arrays, and in the problem that these state.
 use mathlib.Core.Path.{◌≡◌, refl, sym, ap, ap₂, ◌∙◌}
-use mathlib.Core.Bool.{Bool, true, false, cond, not, ◌&&◌, and_true}
+use mathlib.Core.Bool.{Bool, true, false, cond, not, ◌&&◌, and-true}
 use mathlib.Core.List.{List}
 use Prim.Native.Nat.{ℕ, ◌+◌, ◌^◌, ◌≤◌, ◌<◌}
 use native.Mathlib.Nat.{mod-eq_of_lt}
@@ -241,7 +241,7 @@ module _ (P : Problem) (v : Variables) (near index rows : List ℕ) (h : Poses P
   unplayed j k false true e =
       mask_of_bits 16 (get_or D j 0) (domain_small j k)
       ∙ mask_of_same 16 (bit (get_or D j 0)) (λ a. bit (get_or P.domain j 0) a && true)
-      (λ a _. ap (λ (m : ℕ). bit m a) (sym (domain j k)) ∙ sym (and_true (bit (get_or P.domain j 0) a)))
+      (λ a _. ap (λ (m : ℕ). bit m a) (sym (domain j k)) ∙ sym (and-true (bit (get_or P.domain j 0) a)))
   unplayed j k false false e =
       mask_of_bits 16 (going_with index rows p.values p.plays (get_or D j 0) j) (going_lt index rows p.values p.plays (get_or D j 0) j (domain_small j k))
       ∙ mask_of_same 16 (bit (going_with index rows p.values p.plays (get_or D j 0) j)) (λ a. bit (get_or P.domain j 0) a && goes_with_plays P (plays_of p) j a)

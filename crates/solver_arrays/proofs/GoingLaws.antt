@@ -1,6 +1,6 @@
 -- The values of a variable that go with values played.
 use mathlib.Core.Path.{◌≡◌, refl, sym, ap, ap₂, ◌∙◌}
-use mathlib.Core.Bool.{Bool, true, false, not, ◌&&◌, and_true}
+use mathlib.Core.Bool.{Bool, true, false, not, ◌&&◌, and-true}
 use mathlib.Core.List.{List}
 use Prim.Native.Nat.{ℕ, zero, suc, ◌<◌}
 use native.Mathlib.Omega.{arith}
@@ -16,7 +16,7 @@ use Rattle.solver_arrays.specs.Arrays.{row_in}
 use Rattle.solver_arrays.specs.Going.{value_at, going_with}
 
 and_swap : (a b c : Bool) → ((a && b) && c) ≡ (a && (c && b))
-and_swap true true c = sym (and_true c)
+and_swap true true c = sym (and-true c)
 and_swap true false true = refl
 and_swap true false false = refl
 and_swap false b c = refl
@@ -31,7 +31,7 @@ module _ (index rows values : List ℕ) where
   pub going_bit : (k m j a : ℕ) (g : ℕ → Bool) → ((i : ℕ) → i < k → bit (row_in index rows i (value_at values i) j) a ≡ g i)
       → bit (going_with index rows values k m j) a ≡ (bit m a && each k (λ i. true) g)
   unfolding going_with each
-  going_bit zero m j a g h = sym (and_true (bit m a))
+  going_bit zero m j a g h = sym (and-true (bit m a))
   going_bit (suc k) m j a g h =
       bit-bit_and (going_with index rows values k m j) (row_in index rows k (value_at values k) j) a
       ∙ ap₂ ◌&&◌ (going_bit k m j a g (λ i l. h i (omega arith))) (h k (omega arith))

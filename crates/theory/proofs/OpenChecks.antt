@@ -1,6 +1,6 @@
 -- Open values are what rule 2 leaves of a position's list, over all plays; where a cause holds that nothing is usable, it finds a loss.
 use mathlib.Core.Path.{◌≡◌, refl, sym, ap, subst, fun_ext, ◌∙◌}
-use mathlib.Core.Bool.{Bool, true, false, cond, not, ◌&&◌, ◌||◌, and_true}
+use mathlib.Core.Bool.{Bool, true, false, cond, not, ◌&&◌, ◌||◌, and-true}
 use mathlib.Core.List.{List}
 use Prim.Native.Nat.{ℕ, zero, suc, ◌+◌, ◌-◌, ◌≤◌, ◌<◌}
 use native.Mathlib.Omega.{arith}
@@ -275,7 +275,7 @@ module _ (P : Problem) (p : List ℕ) where
         (λ h. rw (le-ltb j (length p) h, e, unplayed j h) (go (universal j) (domains domain j a) (each (length p) (λ i. true) (goes j a))))
       where
         go : (u d f : Bool) → (d && cond u true f) ≡ cond u d (f && d)
-        go true d f = and_true d
+        go true d f = and-true d
         go false true true = refl
         go false true false = refl
         go false false true = refl

@@ -1,7 +1,7 @@
 -- The values of a turn, by the members of the mask that is left to try: the definitions go over all 16 values, the code over members. What is
 -- left, from the present set or leaf, is the whole reply: that equation is what a loop keeps.
 use mathlib.Core.Path.{◌≡◌, refl, sym, ap, ap₂, subst, ◌∙◌, fun_ext}
-use mathlib.Core.Bool.{Bool, true, false, cond, not, ◌&&◌, and-false, and_true}
+use mathlib.Core.Bool.{Bool, true, false, cond, not, ◌&&◌, and-false, and-true}
 use mathlib.Core.List.{List}
 use Prim.Native.Nat.{ℕ, zero, suc, ◌+◌, ◌-◌, ◌^◌, ◌≤◌, ◌<◌}
 use native.Mathlib.Omega.{arith}
@@ -50,12 +50,12 @@ module _ (jump : Bool) (i : ℕ) (f : ℕ → Ending) where
   module _ (m : ℕ) (h : m < 2 ^ 16) (z : ¬ (m ≡ 0)) (a : ℕ) (q : a ≡ first 16 (bit m)) where
     -- The rest has what the mask has above its lowest member, and nothing below.
     bit-above-low : (x : ℕ) → suc a ≤ x → bit (rest m) x ≡ bit m x
-    bit-above-low x u = bit-rest 16 m h z x ∙ ap (λ e. bit m x && not e) (ne_eqb x (first 16 (bit m)) (omega arith)) ∙ and_true (bit m x)
+    bit-above-low x u = bit-rest 16 m h z x ∙ ap (λ e. bit m x && not e) (ne_eqb x (first 16 (bit m)) (omega arith)) ∙ and-true (bit m x)
 
     no_rest : (x : ℕ) → x < suc a → bit (rest m) x ≡ false
     no_rest x u = by_eq x (first 16 (bit m))
         (λ r. bit-rest 16 m h z x ∙ ap (λ e. bit m x && not e) (eq-eqb x (first 16 (bit m)) r) ∙ and-false (bit m x))
-        (λ r. bit-rest 16 m h z x ∙ ap (λ e. bit m x && not e) (ne_eqb x (first 16 (bit m)) r) ∙ and_true (bit m x) ∙ first_least 16 (bit m) x (omega arith))
+        (λ r. bit-rest 16 m h z x ∙ ap (λ e. bit m x && not e) (ne_eqb x (first 16 (bit m)) r) ∙ and-true (bit m x) ∙ first_least 16 (bit m) x (omega arith))
 
     low-here : bit m a ≡ true
     low-here = ap (bit m) q ∙ holds {b = bit m (first 16 (bit m))} (low_in 16 m h z)
