@@ -1,0 +1,22 @@
+use mathlib.Core.Path.{◌≡◌, ap, ◌∙◌}
+use mathlib.Core.List.{List}
+use Prim.Native.Nat.{ℕ}
+use lib.ListN.{length}
+use Rattle.position.specs.declared.Position.{Position}
+use Rattle.position.specs.Position.{shown}
+use Rattle.judging.specs.declared.Judged.{Judged}
+use Rattle.judging.specs.Judging.{told, judge_told, judge_left}
+use Rattle.bench.specs.Number.{as_number}
+use Rattle.bench.proofs.whole_search.bench_judge.Goals as goal
+
+-- Judging of the fresh position, whose reply is told as one number.
+fresh-judged : (f : List ℕ) (set : ℕ) (room left : List ℕ) (p : Position) (r : Judged) (k : ℕ)
+    → p ≡ shown [] → told r ≡ judge_told f p set (length room) → left ≡ judge_left f p set room → k ≡ as_number 2 (told r)
+    → (k ≡ as_number 2 (judge_told f (shown []) set (length room))) × (left ≡ judge_left f (shown []) set room)
+fresh-judged f set room left p r k e t l n = (
+  n ∙ ap (as_number 2) (t ∙ ap (λ (q : Position). judge_told f q set (length room)) e),
+  l ∙ ap (λ (q : Position). judge_left f q set room) e,
+)
+
+pub returns : goal.returns
+returns c = fresh-judged _ _ _ _ _ _ _ c.fresh.ensures c.judge.ensures.0 c.judge.ensures.1 c.judged.ensures

@@ -1,0 +1,20 @@
+use Rattle.judging.specs.Judging.{told}
+use Rattle.bench.specs.Number.{as_number}
+use borrow.Author.Rules.{rules}
+use Rattle.bench.proofs.whole_search.judged.Goals as goal
+
+pub returns-in-Won : goal.returns-in-Won
+unfolding told as_number
+returns-in-Won c = search rules
+
+pub returns-in-Lost : goal.returns-in-Lost
+unfolding told as_number
+returns-in-Lost c = search rules
+
+pub returns-in-Refused : goal.returns-in-Refused
+unfolding told as_number
+returns-in-Refused c = search rules
+
+pub returns-in-RefusedAt : goal.returns-in-RefusedAt
+unfolding told as_number
+returns-in-RefusedAt c = search rules

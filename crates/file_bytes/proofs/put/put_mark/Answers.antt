@@ -1,0 +1,13 @@
+use lib.ListN.{length-set}
+use native.Mathlib.Numerals.{add-one}
+use native.Mathlib.Omega.{arith}
+use Rattle.buffer.specs.Stored.{stored}
+use Rattle.file_bytes.specs.Bytes.{mark_bytes}
+use Rattle.file_bytes.proofs.put.put_mark.Goals as goal
+
+pub bounds-buf-at-2 : goal.bounds-buf-at-2
+bounds-buf-at-2 c = simp length-set (omega arith)
+
+pub returns : goal.returns
+unfolding mark_bytes stored
+returns c = rw add-one

@@ -1,0 +1,25 @@
+use Prim.Native.Nat.{◌<◌, ◌-◌}
+use borrow.Author.Rules.{rules}
+use mathlib.Core.Path.{◌≡◌, refl}
+use native.Mathlib.Numerals.{add-one}
+use native.Mathlib.Omega.{arith}
+use Rattle.file_decoder.specs.Tables.{near_to, index_to, rows_to}
+use Rattle.file_decoder.proofs.entries.put_constraints.Goals as goal
+
+pub loop-t-init : goal.loop-t-init
+unfolding near_to index_to rows_to
+loop-t-init c = (search rules, refl, refl, refl)
+
+pub put_constraint-requires : goal.put_constraint-requires
+put_constraint-requires c =
+    let h = c.requires in
+    let t = c.loop-t.t in
+    let l : t < c.args.m = omega arith in
+    let o = h.order t l in (h.whole t l, omega (arith, h.few), omega arith, o.1)
+
+pub loop-t-preserved : goal.loop-t-preserved
+unfolding near_to index_to rows_to
+loop-t-preserved c = (search rules, rw add-one (cc), rw add-one (cc), rw add-one (cc))
+
+pub returns : goal.returns
+returns c = let e : c.loop-t.t ≡ c.args.m = omega arith in (cc, (cc, cc))

@@ -1,0 +1,14 @@
+use Prim.Native.Nat.{◌-◌, ◌≤◌}
+use Rattle.mask.specs.Range.{count}
+use Rattle.mask.specs.Mask.{bit}
+use Rattle.buffer.specs.Stored.{joined}
+use Rattle.formula.specs.Formula.{only_if}
+use Rattle.formula_clauses.specs.Lines.{Lines}
+use Rattle.formula_clauses.specs.Clauses.{clash_of}
+use Rattle.formula_clauses.proofs.clash.put_row.Given as goal
+
+abbrev pub invariant-loop-b : goal.invariant-loop-b
+invariant-loop-b l = (l.b ≤ 16) × Lines l.initial.out l.initial.r (joined (λ l.b. only_if (bit l.bad l.b) (clash_of l.x l.p l.y (count l.b (bit l.y.domain)))) l.b) l.r l.out
+
+abbrev pub decreases-loop-b : goal.decreases-loop-b
+decreases-loop-b l = 16 - l.b

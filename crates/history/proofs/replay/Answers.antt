@@ -1,0 +1,42 @@
+use mathlib.Core.Path.{◌≡◌, ap, ◌∙◌}
+use lib.ListN.{length}
+use Rattle.position.specs.declared.Position.{Position}
+use Rattle.session.specs.Told.{told_opened, open_told, masks_shown, counts_shown}
+use Rattle.session.specs.History.{reached_by}
+use Rattle.marking.specs.Marking.{told, mark_told, mark_left}
+use Rattle.history.specs.Replay.{calls_of}
+use Rattle.history.proofs.ByteLaws.{from-fresh}
+use Rattle.history.proofs.Histories.{demand_3}
+use Rattle.history.proofs.replay.Goals as goal
+use Rattle.history.proofs.replay.Goals.{After-mark-marks, After-open_values-opened, After-reached-p}
+
+-- What the entries reply, over the calls.
+over : (c : After-reached-p) → let a = c.args in c.reached-p.result ≡ reached_by a.f.now (calls_of a.calls.now)
+over c = from-fresh _ _ _ _ c.fresh-start.ensures c.reached-p.ensures
+
+marks-are : (c : After-mark-marks) → let a = c.args in
+    told c.mark-marks.result ≡ mark_told a.f.now (reached_by a.f.now (calls_of a.calls.now)) a.set (length a.room.now)
+marks-are c = let a = c.args in
+    c.mark-marks.ensures.0 ∙ ap (λ (p : Position). mark_told a.f.now p a.set (length a.room.now)) (over c.HERE.After-reached-p)
+
+opened : (c : After-open_values-opened) → let a = c.args in
+    told_opened c.open_values-opened.result ≡ open_told a.f.now (reached_by a.f.now (calls_of a.calls.now))
+opened c = let a = c.args in
+    c.open_values-opened.ensures.0 ∙ ap (open_told a.f.now) (over c.HERE.After-reached-p)
+
+pub returns : goal.returns
+returns c =
+    let a = c.args in
+    let e = c.open_values-opened.ensures.1 in (
+      marks-are (goal.at.returns c).After-mark-marks,
+      (
+        opened (goal.at.returns c).After-open_values-opened,
+        (
+          (e.0 ∙ ap (masks_shown a.f.now) (over (goal.at.returns c).After-reached-p), e.1 ∙ ap (counts_shown a.f.now) (over (goal.at.returns c).After-reached-p)),
+          (
+            c.mark-marks.ensures.1 ∙ ap (λ (p : Position). mark_left a.f.now p a.set a.room.now) (over (goal.at.returns c).After-reached-p),
+            λ fine. let t = demand_3 a.f.now fine (calls_of a.calls.now) a.set (length a.room.now) in (λ s r. marks-are (goal.at.returns c).After-mark-marks ∙ t.0 s r, opened (goal.at.returns c).After-open_values-opened ∙ t.1),
+          ),
+        ),
+      ),
+    )

@@ -1,0 +1,6 @@
+use mathlib.Core.Path.{ap, ◌∙◌}
+use Rattle.host_replies.specs.Replies.{formula_judgement_of}
+use Rattle.host.proofs.kb_judge_formula.Goals as goal
+
+pub returns : goal.returns
+returns c = (c.judged_formula_shown.ensures ∙ ap formula_judgement_of c.judge_formula.ensures.0, c.judge_formula.ensures.1)

@@ -1,0 +1,6 @@
+use mathlib.Core.Path.{refl, ap, ◌∙◌}
+use Rattle.host_replies.specs.Replies.{marks_of}
+use Rattle.host.proofs.kb_mark.Goals as goal
+
+pub returns : goal.returns
+returns c = c.marked_shown.ensures ∙ ap marks_of (c.mark.ensures.0 ∙ rw c.unpacked-p.ensures refl)

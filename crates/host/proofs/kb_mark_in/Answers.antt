@@ -1,0 +1,6 @@
+use mathlib.Core.Path.{ap, ◌∙◌}
+use Rattle.host_replies.specs.Replies.{marks_of}
+use Rattle.host.proofs.kb_mark_in.Goals as goal
+
+pub returns : goal.returns
+returns c = (c.marked_shown.ensures ∙ ap marks_of c.mark.ensures.0, c.mark.ensures.1)

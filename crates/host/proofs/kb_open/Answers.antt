@@ -1,0 +1,5 @@
+use mathlib.Core.Path.{refl, ◌∙◌}
+use Rattle.host.proofs.kb_open.Goals as goal
+
+pub returns : goal.returns
+returns c = c.opened_shown.ensures ∙ rw (c.open_values.ensures.0, c.open_values.ensures.1.0, c.open_values.ensures.1.1) refl

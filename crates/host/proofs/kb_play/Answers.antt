@@ -1,0 +1,5 @@
+use mathlib.Core.Path.{refl, ◌∙◌}
+use Rattle.host.proofs.kb_play.Goals as goal
+
+pub returns : goal.returns
+returns c = c.moved_shown.ensures ∙ rw (c.play.ensures.0, c.play.ensures.1) refl

@@ -1,0 +1,7 @@
+use mathlib.Core.Path.{refl, ◌∙◌}
+use Rattle.host.specs.Replayed.{replies_at, replay_of}
+use Rattle.host.proofs.kb_replay.Goals as goal
+
+pub returns : goal.returns
+unfolding replies_at replay_of
+returns c = let e = c.replay.ensures in c.replayed_shown.ensures ∙ rw (e.0, e.1.0, e.1.1.0.0, e.1.1.0.1) refl

@@ -1,0 +1,6 @@
+use mathlib.Core.Path.{ap, ◌∙◌}
+use Rattle.host_replies.specs.Replies.{searched_of}
+use Rattle.host.proofs.kb_search.Goals as goal
+
+pub returns : goal.returns
+returns c = c.searched_shown.ensures ∙ ap searched_of c.search.ensures.0

@@ -1,0 +1,9 @@
+use mathlib.Core.Path.{ap, ◌∙◌}
+use Rattle.host_replies.specs.Replies.{written_of}
+use Rattle.host.proofs.WideSet.{byte-told, byte_left}
+use Rattle.host.proofs.kb_write.Goals as goal
+
+pub returns : goal.returns
+returns c = let e = c.write.ensures in
+    let s = c.set_handed-r.ensures in
+    (c.written_shown.ensures ∙ ap written_of (e.0 ∙ rw s (byte-told _ _ _ _ _ _ _ _)), e.1 ∙ rw s (byte_left _ _ _ _ _ _ _ _))

@@ -1,0 +1,8 @@
+use mathlib.Core.Path.{ap₂, ◌∙◌}
+use Rattle.refusal.specs.Chain.{◌then◌}
+use Rattle.rule_lend.specs.Lend.{variable_test}
+use Rattle.rule_lend.proofs.variable_test.Goals as goal
+
+pub returns : goal.returns
+unfolding variable_test
+returns c = c.first.ensures ∙ ap₂ ◌then◌ c.list_test-s.ensures c.needed-t.ensures
