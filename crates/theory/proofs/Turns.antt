@@ -214,6 +214,7 @@ module _ (P : Problem) where
           ≡ is_solved (cond s (solved p) (failed (handed (uses S 6) n (bit_or (first_broken P p) (check_set P S c p l R))))) → T s → b ≡ false
       go false s e t = refl
       go true true e t = absurd (subst (λ b. T b) (sym e) tt)
+      go true false e t = elim t [ ]
 
   -- Two lists of a turn in which all are played are the same.
   pub played_same : (p l m : List ℕ) → length p ≡ n → AtTurn P p l → AtTurn P p m → l ≡ m

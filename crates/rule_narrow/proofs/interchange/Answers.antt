@@ -13,7 +13,7 @@ pub same_row-requires : goal.same_row-requires
 same_row-requires c = let l = low_lt 32 _ c.loop-left.invariant.0 c.loop-left-test.true in search rules
 
 pub returns-then-not-same_row : goal.returns-then-not-same_row
-returns-then-not-same_row c = each-stop 32 _ c.loop-left.invariant.0 c.loop-left-test.true _ _ _ c.lowest_32-j.ensures (sym c.same_row.ensures ∙ not-true _ c.if-not-same_row.true) c.loop-left.invariant.1
+returns-then-not-same_row c = each-stop 32 _ c.loop-left.invariant.0 c.loop-left-test.true _ _ _ c.lowest_32-j.ensures (sym c.same_row.ensures ∙ c.if-not-same_row.true) c.loop-left.invariant.1
 
 pub loop-left-smaller : goal.loop-left-smaller
 loop-left-smaller c = rw c.rest_of_32-left.ensures (rest_lt _ c.loop-left-test.true)
@@ -21,7 +21,7 @@ loop-left-smaller c = rw c.rest_of_32-left.ensures (rest_lt _ c.loop-left-test.t
 pub loop-left-preserved : goal.loop-left-preserved
 loop-left-preserved c =
     let a = c.loop-left.invariant in
-    (search rules, each_next 32 _ a.0 c.loop-left-test.true _ _ _ c.lowest_32-j.ensures _ (sym c.same_row.ensures ∙ not-false _ c.if-not-same_row.false) c.rest_of_32-left.ensures a.1)
+    (search rules, each_next 32 _ a.0 c.loop-left-test.true _ _ _ c.lowest_32-j.ensures _ (sym c.same_row.ensures ∙ c.if-not-same_row.false) c.rest_of_32-left.ensures a.1)
 
 pub returns : goal.returns
 returns c = each_end 32 _ c.loop-left-test.false _ _ c.loop-left.invariant.1

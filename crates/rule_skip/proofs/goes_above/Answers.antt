@@ -16,7 +16,7 @@ pub returns-then-not-box_goes : goal.returns-then-not-box_goes
 returns-then-not-box_goes c =
     let a = c.loop-left.invariant in
     each-stop 32 _ a.0 c.loop-left-test.true _ _ a.1 _ c.lowest_32-k.ensures
-    (sym c.box_goes.ensures ∙ not-true _ c.if-not-box_goes.true)
+    (sym c.box_goes.ensures ∙ c.if-not-box_goes.true)
 
 pub loop-left-smaller : goal.loop-left-smaller
 loop-left-smaller c = rw c.rest_of_32-left.ensures (rest_lt _ c.loop-left-test.true)
@@ -26,7 +26,7 @@ loop-left-preserved c =
     let a = c.loop-left.invariant in (
       search rules,
       each_next 32 _ a.0 c.loop-left-test.true _ _ a.1 _ c.lowest_32-k.ensures
-          (sym c.box_goes.ensures ∙ not-false _ c.if-not-box_goes.false) _ c.rest_of_32-left.ensures,
+          (sym c.box_goes.ensures ∙ c.if-not-box_goes.false) _ c.rest_of_32-left.ensures,
     )
 
 pub returns : goal.returns

@@ -6,10 +6,10 @@ use borrow.Author.Tests.{not-true, not-false, lt-ltb, le-ltb}
 use Rattle.rule_forward.proofs.steps.least.Goals as goal
 
 pub returns-then-not-lost : goal.returns-then-not-lost
-returns-then-not-lost c = rw (not-true c.args.lost c.if-not-lost.true)
+returns-then-not-lost c = rw c.if-not-lost.true
 
 pub returns-then-j-named : goal.returns-then-j-named
-returns-then-j-named c = rw (not-false c.args.lost c.if-not-lost.false, lt-ltb c.args.j c.args.named c.if-j-named.true)
+returns-then-j-named c = rw (c.if-not-lost.false, lt-ltb c.args.j c.args.named c.if-j-named.true)
 
 stays : (lost : Bool) (j named : ℕ) → lost ≡ true → named ≤ j → named ≡ cond (lost && ltb j named) j named
 stays lost j named p q = rw (p, le-ltb j named q)
