@@ -100,8 +100,10 @@ class Function:
         field = path[0]
         if field in ("args", "requires", "ranges", "well_formed", "lifetimes"):
             return path
-        keys = {fold(field), re.sub("-lem$", "", fold(field)), {"type-size": "size-of"}.get(fold(field), "")}
-        found = [q for q in chain if fold(self.names["places"][self.by[q]][2][0]) in keys]
+        keys = {fold(field), re.sub("-lem$", "", fold(field)), {"type-size": "size-of"}.get(fold(field), fold(field))}
+        keys = {k.lower() for k in keys}
+        named = lambda q: fold(self.names["places"][self.by[q]][2][0]).lower() in keys
+        found = [q for q in chain if named(q)] or [q for q in self.places if named(q)]
         if not found:
             return self.changed(chain, path) or self.lost(place, path)
         q = found[0]
@@ -191,7 +193,8 @@ def live(fn, d):
     if len(params) != len(targets):
         raise Odd(f"{d['name']} has {len(params)} parameters, the loop {len(targets)}: {vs} {changed}")
     to = dict(zip(params, targets))
-    text = re.sub(r"(?<![\w'.-])(" + "|".join(sorted(map(re.escape, params), key=len, reverse=True)) + r")(?![\w'\u2080-\u2089-])", lambda m: to[m.group(1)] if m.group(1) != "_" else "_", m.group(2))
+    # neither the field's name in a record nor what a λ binds
+    text = re.sub(r"(?<![\w'.-])(?<!λ )(" + "|".join(sorted(map(re.escape, params), key=len, reverse=True)) + r")(?![\w'\u2080-\u2089-])(?! = )", lambda m: to[m.group(1)] if m.group(1) != "_" else "_", m.group(2))
     kind = d["name"].split("-")[0]
     n = f"{kind}-{new}"
     return n, unf, f"{n} l ={text}"

@@ -35,6 +35,10 @@ symmetric_of f i a j b = and_comm (allows (look_up f i j) f a b) (allows (look_u
 found_order : (r : Told) (f : List ℕ) (i j : ℕ) → look_up f i j ≡ r → T (found r) → i < j
 unfolding found
 found_order (replied (p ∷ [])) f i j e t = (look_at f i j p e).order.0
+found_order (replied []) f i j e t = elim t [ ]
+found_order (replied (p ∷ (_ ∷ _))) f i j e t = elim t [ ]
+found_order (refused _) f i j e t = elim t [ ]
+found_order (refused_at _ _) f i j e t = elim t [ ]
 
 -- No constraint joins a variable with itself.
 pub apart_of : (f : List ℕ) (i j : ℕ) → T (constrained_of f i j) → ¬ (i ≡ j)
@@ -91,6 +95,10 @@ module _ (f : List ℕ) (fine : verdict_of f ≡ Fine) where
       let o = (constraints_stand f fine).order s.t s.less in
       let g : v < 32 = omega (arith, a.order, (accepted f fine).head.counts.most) in
       record { t = s.t; less = s.less; one = omega (arith, s.pair, a.order, o.0, o.1); two = omega (arith, s.pair, a.order, o.0, o.1) }
+  has_of (replied []) u v e h = elim h [ ]
+  has_of (replied (p ∷ (_ ∷ _))) u v e h = elim h [ ]
+  has_of (refused _) u v e h = elim h [ ]
+  has_of (refused_at _ _) u v e h = elim h [ ]
 
   found_at : (t : ℕ) → t < m_of f → T (found (look_up f (one t) (two t)))
   unfolding found constraint_one constraint_two

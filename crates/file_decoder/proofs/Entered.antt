@@ -1,7 +1,7 @@
 -- The arrays after the first k constraints, place by place: which words the constraints have, and that all others are as they were.
 use Prim.Native.Nat.{ℕ, zero, suc, ◌+◌, ◌*◌, ◌^◌, ◌≤◌, ◌<◌}
 use mathlib.Core.Path.{◌≡◌, refl, sym, ap, ◌∙◌}
-use mathlib.Core.Bool.{Bool, true, false, ◌&&◌, ◌||◌, or_assoc, or_comm}
+use mathlib.Core.Bool.{Bool, true, ◌&&◌, ◌||◌, or_assoc, or_comm}
 use mathlib.Core.List.{List}
 use mathlib.Core.Logic.{⊎_elim}
 use lib.Bits.{bit_or}

@@ -1,7 +1,7 @@
 -- The arrays of an accepted file state its problem: what the constraints' numbers give by the index is what the look-up finds.
 use Prim.Native.Nat.{ℕ, ◌+◌, ◌*◌, ◌≤◌, ◌<◌}
 use mathlib.Core.Path.{◌≡◌, refl, sym, ap, ap₂, ◌∙◌}
-use mathlib.Core.Bool.{Bool, true, false, ◌||◌, or-false, false≢true}
+use mathlib.Core.Bool.{true, false, ◌||◌, or-false, false≢true}
 use mathlib.Core.List.{List}
 use lib.ListN.{length, get_or, take, replicate, length-replicate, get_or-replicate, get_or-eq_default}
 use native.Mathlib.Omega.{arith}
@@ -10,7 +10,6 @@ use Rattle.mask.specs.Mask.{bit, mask_of}
 use Rattle.mask.proofs.Logic.{holds, fails, test, by_lt, clash}
 use Rattle.mask.proofs.Bits.{bit_of_zero}
 use Rattle.mask.proofs.Masks.{bit-mask_of}
-use Rattle.game.specs.Problem.{Problem}
 use Rattle.solver_arrays.specs.Arrays.{row_in, InRange, States}
 use Rattle.refusal.specs.declared.Verdict.TheVariants.{Fine}
 use Rattle.refusal.specs.declared.Verdict.TheVariants.{Refused as Not}

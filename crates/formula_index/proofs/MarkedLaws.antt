@@ -18,7 +18,7 @@ use Rattle.formula_index.specs.Marked.{marked, ranked}
 pub marked_append : (l : List ℕ) (xs ys : List Quantified) → marked l (xs ++ ys) ≡ marked (marked l xs) ys
 unfolding marked
 marked_append l [] ys = refl
-marked_append l (q ∷ xs) ys = marked_append _ xs ys
+marked_append l (q ∷ xs) ys = marked_append (set l (q.boolean % 513) (cond q.universal 1 0)) xs ys
 
 -- ---- lines one after another
 
@@ -74,7 +74,7 @@ marked-below l [] v j t h m = refl
 marked-below l (q ∷ qs) v j t h m =
     let w = and_out (eqb q.boolean v) (counting (suc v) qs) t in
     let e = eqb-true q.boolean v (holds w.0) in
-    marked-below _ qs (suc v) j w.1 (omega arith) (omega arith) ∙ get_or-set_other l (q.boolean % 513) j _ 0 (λ d. omega arith)
+    marked-below (set l (q.boolean % 513) (cond q.universal 1 0)) qs (suc v) j w.1 (omega arith) (omega arith) ∙ get_or-set_other l (q.boolean % 513) j _ 0 (λ d. omega arith)
 
 one_true : (u : Bool) → u ≡ eqb (cond u 1 0) 1
 one_true true = refl

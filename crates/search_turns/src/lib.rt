@@ -18,7 +18,7 @@ use search_words::{hand_down, start_set, take_leaf};
 use solver_arrays::{Index, Near, Rows};
 
 // A turn whose variable is existential.
-#[cycle(existential_turn_universal_turn)]
+#[cycle(turns)]
 pub fn existential_turn(
     near: &Near,
     index: &Index,
@@ -64,7 +64,7 @@ pub fn existential_turn(
 }
 
 // A turn whose variable is universal.
-#[cycle(existential_turn_universal_turn)]
+#[cycle(turns)]
 pub fn universal_turn(
     near: &Near,
     index: &Index,

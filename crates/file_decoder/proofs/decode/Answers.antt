@@ -19,5 +19,5 @@ returns-in-Refused c = leaves _ _ _ _ _ _ _ _ (header_refuses _ _ _ (ap told (sy
 pub returns-in-Accepted : goal.returns-in-Accepted
 returns-in-Accepted c =
     let e = c.put_all.ensures in
-    enters _ _ _ _ _ _ _ _ _ _ (λ k. omega (arith, c.shared_slice_known-1.given k)) (shows (goal.at.returns-in-Accepted c).After-constraints_at-q) c.constraints_at-q.ensures e.0 e.1.0 e.1.1
+    enters _ _ _ _ _ _ _ _ _ _ (λ k. omega (arith, c.type_inv.f k)) (shows (goal.at.returns-in-Accepted c).After-constraints_at-q) c.constraints_at-q.ensures e.near_after e.index_after e.rows_after
     refl refl refl refl c.read-r.ensures.1

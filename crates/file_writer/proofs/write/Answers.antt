@@ -20,10 +20,10 @@ pub returns-in-Refused : goal.returns-in-Refused
 unfolding told
 returns-in-Refused c =
     let q = sym c.write_test-v.ensures ∙ c.in-Refused.is in
-    (sym (told-refused _ _ _ _ q), sym (buffer_refused _ _ _ _ q))
+    record { result_value = sym (told-refused _ _ _ _ q); buf_after = sym (buffer_refused _ _ _ _ q) }
 
 pub returns-in-Fine : goal.returns-in-Fine
 unfolding told length_of
 returns-in-Fine c =
     let q = sym c.write_test-v.ensures ∙ c.in-Fine.is in
-    (told-length _ _ _ q c.length_of.ensures, buffer_stored _ _ _ q c.put_all.ensures)
+    record { result_value = told-length _ _ _ q c.length_of.ensures; buf_after = buffer_stored _ _ _ q c.put_all.ensures }

@@ -1,5 +1,4 @@
 use native.Mathlib.Omega.{arith}
-use Prim.Native.Nat.{◌-◌}
 use Rattle.formula_judge.proofs.ClauseLaws.{passed_none, passed_all, passed_end, passed_true, passed_more}
 use Rattle.formula_judge.proofs.clause_holds.Goals as goal
 

@@ -2,4 +2,4 @@ use borrow.Author.Rules.{rules}
 use Rattle.formula_judge.proofs.decided.Goals as goal
 
 pub returns : goal.returns
-returns c = (search rules, c.clauses_hold.ensures)
+returns c = record { values_after = search rules; by_index = c.clauses_hold.ensures }

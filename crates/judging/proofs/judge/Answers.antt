@@ -13,4 +13,6 @@ long c = search rules
 
 pub returns : goal.returns
 unfolding found
-returns c = let s = c.search-s.ensures in (ap {B = Told} (λ (o : Findings). o.told) s.0 ∙ judged-found _ _ _ _ (long (goal.at.returns c).Start), s.1)
+returns c =
+    let s = c.search-s.ensures in
+    record { result_value = ap {B = Told} (λ (o : Findings). o.told) s.result_value ∙ judged-found _ _ _ _ (long (goal.at.returns c).Start); room_after = s.room_after }

@@ -14,10 +14,14 @@ long c = search rules
 
 pub returns-then-d : goal.returns-then-d
 unfolding told mark_told mark_left
-returns-then-d c = let q = c.decode-d.ensures.refused c.if-d.true in (sym (read_refused _ _ _ _ _ q), sym (read_refused _ _ _ _ _ q))
+returns-then-d c =
+    let q = c.decode-d.ensures.refused c.if-d.true in
+    record { result_value = sym (read_refused _ _ _ _ _ q); room_after = sym (read_refused _ _ _ _ _ q) }
 
 pub mark_in-requires : goal.mark_in-requires
 mark_in-requires c = ready_of _ _ _ _ _ _ (c.decode-d.ensures.given c.if-d.false)
 
 pub returns : goal.returns
-returns c = marked-file _ _ _ _ _ _ (c.decode-d.ensures.given c.if-d.false) _ (long (goal.at.returns c).Start) _ _ _ _ c.mark_in.ensures
+returns c =
+    let w = marked-file _ _ _ _ _ _ (c.decode-d.ensures.given c.if-d.false) _ (long (goal.at.returns c).Start) _ _ _ _ c.mark_in.ensures in
+    record { result_value = w.0; room_after = w.1 }

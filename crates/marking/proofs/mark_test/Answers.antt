@@ -8,5 +8,5 @@ pub returns : goal.returns
 unfolding mark_place_test
 returns c =
     c.first-2.ensures
-    ∙ ap₂ ◌then◌ (c.needed-s.ensures ∙ ap (λ (b : Bool). need b 23 0) c..ensures)
+    ∙ ap₂ ◌then◌ (c.needed-s.ensures ∙ ap (λ (b : Bool). need b 23 0) c.fits.ensures)
     (c.first.ensures ∙ ap₂ ◌then◌ c.needed-t.ensures c.room_test-u.ensures)

@@ -20,7 +20,7 @@ place_mask-requires c =
 pub loop-i-preserved : goal.loop-i-preserved
 loop-i-preserved c =
     let l = c.loop-i in
-    let k : length c.args.t1.values ≡ 32 = search rules in
+    let k : length c.args.p.values ≡ 32 = search rules in
     let b : l.i < c.args.n = c.loop-i-test.true in (
       search rules,
       simp length-set l.invariant.1,

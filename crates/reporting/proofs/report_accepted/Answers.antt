@@ -8,11 +8,11 @@ use Rattle.reporting.proofs.report_accepted.Goals as goal
 use Rattle.reporting.proofs.report_accepted.Goals.{After-first_marks-k}
 
 -- The text fits.
-text-long : (c : After-first_marks-k) → length (reply_text c.args.n c.args.m c.args.set c.is_won-won.result 0 c.args.universal c..result.domain c..result.winning) ≤ 658
+text-long : (c : After-first_marks-k) → length (reply_text c.args.n c.args.m c.args.set c.is_won-won.result 0 c.args.universal c.first_marks-k.result.domain c.first_marks-k.result.winning) ≤ 658
 text-long c = reply_long _ _ _ _ _ _ _ _ (omega arith) (omega arith) (omega arith) (omega arith)
 
 pub render_reply-requires : goal.render_reply-requires
 render_reply-requires c = omega (arith, text-long (goal.at.render_reply-requires c).After-first_marks-k)
 
 pub returns : goal.returns
-returns c = (omega (arith, text-long (goal.at.returns c).After-first_marks-k, c.render_reply.ensures.0), λ fine h. holds_as _ _ (reply_same _ _ _ _ (c.is_won-won.ensures fine h) (c..ensures fine h).1 (c..ensures fine h).0) c.render_reply.ensures.0 c.render_reply.ensures.1)
+returns c = (omega (arith, text-long (goal.at.returns c).After-first_marks-k, c.render_reply.ensures.0), λ fine h. holds_as _ _ (reply_same _ _ _ _ (c.is_won-won.ensures fine h) (c.first_marks-k.ensures fine h).1 (c.first_marks-k.ensures fine h).0) c.render_reply.ensures.0 c.render_reply.ensures.1)

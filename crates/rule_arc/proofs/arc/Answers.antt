@@ -10,4 +10,4 @@ loss_in-requires c =
 
 pub returns : goal.returns
 returns c =
-    λ P st. arced P _ _ _ _ _ _ _ _ (search rules) (λ k. omega (arith, c..given k)) _ _ c..ensures.1 _ st c.requires.3 c..ensures.0 c.loss_in.ensures.0 c.loss_in.ensures.1
+    λ P st. arced P _ _ _ _ _ _ _ _ (search rules) (λ k. omega (arith, c.slice_known-1.given k)) _ _ c.remove_dead-touched.ensures.1 _ st c.requires.3 c.remove_dead-touched.ensures.0 c.loss_in.ensures.0 c.loss_in.ensures.1

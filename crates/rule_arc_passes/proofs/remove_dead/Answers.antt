@@ -13,14 +13,14 @@ loop-left-init c = (refl, refl, λ k l b. (b, refl))
 pub loop-left-preserved : goal.loop-left-preserved
 loop-left-preserved c =
     let i = c.loop-left.invariant in
-    (ap (λ (p : Progress). length p.words) c.pass-dirty.ensures ∙ length-pass _ _ _ _ _ _ _ ∙ i.0, passes-step _ _ _ _ _ _ _ _ _ _ i.1 _ _ c.loop-left-test.true (eqb-false _ _ (not-true _ c.if-dirty-ne0.true)) c.pass-dirty.ensures, touched_pass _ _ _ _ _ _ _ _ _ _ c.args.w.now _ _ c.pass-dirty.ensures i.2)
+    (ap (λ (p : Progress). length p.words) c.pass-dirty.ensures ∙ length-pass _ _ _ _ _ _ _ ∙ i.0, passes-step _ _ _ _ _ _ _ _ _ _ i.1 _ _ c.loop-left-test.true c.if-dirty-ne0.true c.pass-dirty.ensures, touched_pass _ _ _ _ _ _ _ _ _ _ c.args.w.now _ _ c.pass-dirty.ensures i.2)
 
 pub shape_of-w-else-dirty-ne0 : goal.shape_of-w-else-dirty-ne0
 shape_of-w-else-dirty-ne0 c = c.loop-left.invariant.0
 
 pub returns-else-dirty-ne0 : goal.returns-else-dirty-ne0
 unfolding removed_in
-returns-else-dirty-ne0 c = (passes_clean _ _ _ _ _ _ _ _ _ _ c.loop-left.invariant.1 (eqb-true _ _ (not-false _ c.if-dirty-ne0.false)), c.loop-left.invariant.2)
+returns-else-dirty-ne0 c = (passes_clean _ _ _ _ _ _ _ _ _ _ c.loop-left.invariant.1 c.if-dirty-ne0.false, c.loop-left.invariant.2)
 
 pub shape_of-w-after-loop-left : goal.shape_of-w-after-loop-left
 shape_of-w-after-loop-left c = c.loop-left.invariant.0

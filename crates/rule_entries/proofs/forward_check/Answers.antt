@@ -5,7 +5,7 @@ use Rattle.rule_entries.proofs.forward_check.Goals as goal
 
 pub returns-then-d : goal.returns-then-d
 unfolding told_check forward_told forward_left
-returns-then-d c = let q = c.decode-d.ensures.refused c.if-d.true in (sym (read_refused _ _ _ _ _ q), sym (read_refused _ _ _ _ _ q))
+returns-then-d c = let q = c.decode-d.ensures.refused c.if-d.true in record { result_value = sym (read_refused _ _ _ _ _ q); list_after = sym (read_refused _ _ _ _ _ q) }
 
 pub forward_in-requires : goal.forward_in-requires
 forward_in-requires c = let g = c.decode-d.ensures.given c.if-d.false in (g.most, g.range)
@@ -15,4 +15,4 @@ unfolding forward_told forward_left
 returns c =
     let g = c.decode-d.ensures.given c.if-d.false in
     let o = c.forward_in.ensures _ g.poses in
-    (o.0 ∙ sym (read_fine _ _ _ g.fine), o.1 ∙ sym (read_fine _ _ _ g.fine))
+    record { result_value = o.0 ∙ sym (read_fine _ _ _ g.fine); list_after = o.1 ∙ sym (read_fine _ _ _ g.fine) }

@@ -18,8 +18,8 @@ pub returns-then-f-g : goal.returns-then-f-g
 returns-then-f-g c =
     let p = c.requires in
     let t = c.if-f-g.true in record {
-      replies = λ P st. let f = c..ensures.0 P st in
-          play_lost P _ _ _ _ _ st _ p.1 _ p.2 (λ k. omega (arith, c..given k)) p.4 _ c.lowest-a.ensures _ _ f.0 f.1 t _ (c.forward_conflict.ensures P _ _ _ _ st t);
+      replies = λ P st. let f = c.forward-f.ensures.0 P st in
+          play_lost P _ _ _ _ _ st _ p.1 _ p.2 (λ k. omega (arith, c.slice_known-1.given k)) p.4 _ c.lowest-a.ensures _ _ f.0 f.1 t _ (c.forward_conflict.ensures P _ _ _ _ st t);
       checked = record { lasts = λ e. absurd (true_holds (sym e)); moved = λ e. absurd (true_holds (sym e)); heeded = λ e _ _. absurd (true_holds (sym e)) };
     }
 

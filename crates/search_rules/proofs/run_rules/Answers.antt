@@ -55,7 +55,7 @@ pub returns : goal.returns
 returns c =
     let p = c.requires in
     let g = c.if-a.false in record {
-      replies = λ P st q s. turn_ends P _ _ _ _ _ st _ _ _ q _ s p.3 _ c.uses-checked.ensures _ _ _ ((c..ensures.checks refl).replies P st q s) c.if-s.false
-          _ c.uses-used.ensures _ _ _ ((c..ensures.arcs other).replies P st) g _ c.ahead_used.ensures _ _ (c.ahead_turn.ensures P st);
-      lasts = λ _. c..ensures.lasts g;
+      replies = λ P st q s. turn_ends P _ _ _ _ _ st _ _ _ q _ s p.3 _ c.uses-checked.ensures _ _ _ ((c.rule_turn-s.ensures.checks refl).replies P st q s) c.if-s.false
+          _ c.uses-used.ensures _ _ _ ((c.rule_turn-a.ensures.arcs other).replies P st) g _ c.ahead_used.ensures _ _ (c.ahead_turn.ensures P st);
+      lasts = λ _. c.rule_turn-a.ensures.lasts g;
     }

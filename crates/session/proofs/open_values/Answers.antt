@@ -7,10 +7,10 @@ use Rattle.session.proofs.open_values.Goals as goal
 pub returns-then-d : goal.returns-then-d
 unfolding told_with told_opened open_told masks_shown counts_shown
 returns-then-d c =
-    let q = c.decode-d.ensures.refused c.if-d.true in (
-      sym (read_refused _ _ _ _ _ q),
-      (sym (read_refused _ _ _ _ _ q), sym (read_refused _ _ _ _ _ q)),
-    )
+    let q = c.decode-d.ensures.refused c.if-d.true in record {
+      result_value = sym (read_refused _ _ _ _ _ q);
+      masks_value = (sym (read_refused _ _ _ _ _ q), sym (read_refused _ _ _ _ _ q));
+    }
 
 pub open_in-requires : goal.open_in-requires
 open_in-requires c = let g = c.decode-d.ensures.given c.if-d.false in ((own_posed _ _ _ _ _ _ g).states.most, g.range)
@@ -19,4 +19,4 @@ pub returns : goal.returns
 returns c =
     let g = c.decode-d.ensures.given c.if-d.false in
     let o = open_read _ _ g.fine _ (c.open_in.ensures _ _ (own_posed _ _ _ _ _ _ g)) in
-    (o.0, (o.1, o.2))
+    record { result_value = o.0; masks_value = (o.1, o.2) }

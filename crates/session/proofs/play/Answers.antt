@@ -5,4 +5,4 @@ use Rattle.session.proofs.play.Goals as goal
 
 pub returns : goal.returns
 unfolding play_told play_left
-returns c = (ap (λ (x : Played). told x.answer) c.play_file.ensures, ap (λ (x : Played). x.position) c.play_file.ensures)
+returns c = record { answer_value = ap (λ (x : Played). told x.answer) c.play_file.ensures; position_value = ap (λ (x : Played). x.position) c.play_file.ensures }

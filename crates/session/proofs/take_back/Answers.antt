@@ -5,4 +5,4 @@ use Rattle.session.proofs.take_back.Goals as goal
 
 pub returns : goal.returns
 unfolding take_back_told take_back_left
-returns c = (ap (λ (x : Played). told x.answer) c.take_back_file.ensures, ap (λ (x : Played). x.position) c.take_back_file.ensures)
+returns c = record { answer_value = ap (λ (x : Played). told x.answer) c.take_back_file.ensures; position_value = ap (λ (x : Played). x.position) c.take_back_file.ensures }

@@ -1,4 +1,3 @@
-use borrow.Author.Rules.{rules}
 use mathlib.Core.Path.{◌∙◌}
 use native.Mathlib.Omega.{arith}
 use Rattle.file_bytes.proofs.RecordLaws.{start_least, start_given, head_absent, head_given}
@@ -11,7 +10,7 @@ pub put_qp-requires-in-Given : goal.put_qp-requires-in-Given
 put_qp-requires-in-Given c = omega (arith, start_least c.args.rules)
 
 pub put_rs-requires : goal.put_rs-requires
-put_rs-requires c = omega (arith, start_given _ _ c.in-Given.is, c.put_qp-in-Given.auto.0)
+put_rs-requires c = omega (arith, start_given _ _ c.in-Given.is, c.put_qp-in-Given.auto.buf)
 
 pub returns-in-Absent : goal.returns-in-Absent
 returns-in-Absent c = rw c.in-Absent.is (c.put_qp.ensures ∙ head_absent _ _ _)

@@ -9,7 +9,7 @@ pub put_word-requires : goal.put_word-requires
 put_word-requires c = simp length-set (omega arith)
 
 pub shape_of-buf : goal.shape_of-buf
-shape_of-buf c = c.put_word.auto.0 ∙ simp length-set c.put_mark.auto.0
+shape_of-buf c = c.put_word.auto.buf ∙ simp length-set c.put_mark.auto.buf
 
 pub returns : goal.returns
 unfolding stored qp_bytes word_bytes mark_bytes

@@ -1,4 +1,4 @@
-use Prim.Native.Nat.{◌<◌, ◌-◌}
+use Prim.Native.Nat.{◌<◌}
 use borrow.Author.Rules.{rules}
 use mathlib.Core.Path.{◌≡◌, refl}
 use native.Mathlib.Numerals.{add-one}
@@ -22,4 +22,4 @@ unfolding near_to index_to rows_to
 loop-t-preserved c = (search rules, rw add-one (cc), rw add-one (cc), rw add-one (cc))
 
 pub returns : goal.returns
-returns c = let e : c.loop-t.t ≡ c.args.m = omega arith in (cc, (cc, cc))
+returns c = let e : c.loop-t.t ≡ c.args.m = omega arith in record { near_after = cc; index_after = cc; rows_after = cc }

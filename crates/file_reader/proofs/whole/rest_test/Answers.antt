@@ -18,7 +18,7 @@ bounds :
     (c : After-word_at-m) →
     (c.variables_at-b.result ≤ 8) × (1 ≤ c.byte_at-n.result) × (c.byte_at-n.result ≤ 32) × (c.word_at-m.result ≤ 496)
 bounds c =
-    let h = head_of c.HERE.After-word_at-m in
+    let h = head_of c in
     omega (arith, start_most c.args.f.now, constraints_most _ _ h.counts)
 
 pub word_at-m-requires : goal.word_at-m-requires

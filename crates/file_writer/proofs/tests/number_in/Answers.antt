@@ -3,7 +3,7 @@ use native.Mathlib.Omega.{arith}
 use Rattle.file_writer.proofs.tests.number_in.Goals as goal
 
 pub overflow_cast-result : goal.overflow_cast-result
-overflow_cast-result c = omega (arith, c.shared_slice_known-1.given c.args.p)
+overflow_cast-result c = omega (arith, c.type_inv.xs c.args.p)
 
 pub returns : goal.returns
-returns c = (refl, omega (arith, c.shared_slice_known-1.given c.args.p))
+returns c = (refl, omega (arith, c.type_inv.xs c.args.p))

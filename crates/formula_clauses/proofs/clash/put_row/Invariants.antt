@@ -8,7 +8,7 @@ use Rattle.formula_clauses.specs.Clauses.{clash_of}
 use Rattle.formula_clauses.proofs.clash.put_row.Given as goal
 
 abbrev pub invariant-loop-b : goal.invariant-loop-b
-invariant-loop-b l = (l.b ≤ 16) × Lines l.initial.out l.initial.r (joined (λ l.b. only_if (bit l.bad l.b) (clash_of l.x l.p l.y (count l.b (bit l.y.domain)))) l.b) l.r l.out
+invariant-loop-b l = (l.b ≤ 16) × Lines l.initial.out l.initial.r (joined (λ b. only_if (bit l.bad b) (clash_of l.x l.p l.y (count b (bit l.y.domain)))) l.b) l.r l.out
 
 abbrev pub decreases-loop-b : goal.decreases-loop-b
 decreases-loop-b l = 16 - l.b

@@ -1,4 +1,4 @@
-use Prim.Native.Nat.{ℕ, ◌+◌, ◌-◌, ◌*◌, ◌≤◌}
+use Prim.Native.Nat.{ℕ, ◌+◌, ◌*◌, ◌≤◌}
 use mathlib.Core.List.{List}
 use mathlib.Core.Path.{◌≡◌, refl}
 use native.Mathlib.Omega.{arith}
@@ -19,11 +19,12 @@ unfolding last_from
 clause-gone g = ((g.gives, g.ends), g.near)
 
 pub returns-then-x-eq0 : goal.returns-then-x-eq0
-returns-then-x-eq0 c = clause-gone (going_stop c.loop-k.invariant c.loop-k-test.true c.literal_at-x.ensures c.if-x-eq0.true)
+returns-then-x-eq0 c =
+    let w = clause-gone (going_stop c.loop-k.invariant c.loop-k-test.true c.literal_at-x.ensures c.if-x-eq0.true) in record { last_value = w.0; after_bound = w.1 }
 
 pub loop-k-preserved : goal.loop-k-preserved
 unfolding last_from
 loop-k-preserved c = going_next c.loop-k.invariant c.loop-k-test.true c.literal_at-x.ensures _ (λ s ls. refl) c.if-x-eq0.false
 
 pub returns : goal.returns
-returns c = clause-gone (going_end c.loop-k.invariant (omega arith))
+returns c = let w = clause-gone (going_end c.loop-k.invariant (omega arith)) in record { last_value = w.0; after_bound = w.1 }

@@ -1,4 +1,4 @@
-use Prim.Native.Nat.{ℕ, ◌+◌, ◌-◌, ◌*◌, ◌≤◌}
+use Prim.Native.Nat.{ℕ, ◌+◌, ◌*◌, ◌≤◌}
 use mathlib.Core.Bool.{Bool}
 use mathlib.Core.List.{List}
 use mathlib.Core.Path.{◌≡◌}
@@ -20,11 +20,12 @@ unfolding marked quantified
 line-gone u g = ((g.ends, g.near), g.gives)
 
 pub returns-then-x-eq0 : goal.returns-then-x-eq0
-returns-then-x-eq0 c = line-gone _ (going_stop c.loop-k.invariant.1 c.loop-k-test.true c.literal_at-x.ensures c.if-x-eq0.true)
+returns-then-x-eq0 c =
+    let w = line-gone _ (going_stop c.loop-k.invariant.1 c.loop-k-test.true c.literal_at-x.ensures c.if-x-eq0.true) in record { value = w.0; sides_after = w.1 }
 
 pub loop-k-preserved : goal.loop-k-preserved
 unfolding marked quantified
 loop-k-preserved c = (c.loop-k.invariant.0, going_next c.loop-k.invariant.1 c.loop-k-test.true c.literal_at-x.ensures _ (λ s ls. rw c.loop-k.invariant.0) c.if-x-eq0.false)
 
 pub returns : goal.returns
-returns c = line-gone _ (going_end c.loop-k.invariant.1 (omega arith))
+returns c = let w = line-gone _ (going_end c.loop-k.invariant.1 (omega arith)) in record { value = w.0; sides_after = w.1 }

@@ -1,4 +1,3 @@
-use Prim.Native.Nat.{◌-◌}
 use borrow.Author.Rules.{rules}
 use mathlib.Core.Path.{sym, ◌∙◌}
 use native.Mathlib.Omega.{arith}
@@ -12,10 +11,12 @@ pub read_line-q-requires : goal.read_line-q-requires
 read_line-q-requires c = (omega arith, search rules)
 
 pub returns-else-is_letter : goal.returns-else-is_letter
-returns-else-is_letter c = lined_stop c.loop-k.invariant c.loop-k-test.true c.byte_at-b.ensures.0 (sym c.is_letter.ensures ∙ c.if-is_letter.false)
+returns-else-is_letter c =
+    let w = lined_stop c.loop-k.invariant c.loop-k-test.true c.byte_at-b.ensures.0 (sym c.is_letter.ensures ∙ c.if-is_letter.false) in
+    record { value = w.0; sides_after = w.1 }
 
 pub loop-k-preserved : goal.loop-k-preserved
-loop-k-preserved c = lined_more c.loop-k.invariant c.loop-k-test.true c.requires.1 c.byte_at-b.ensures.0 (sym c.is_letter.ensures ∙ c.if-is_letter.true) c.read_line-q.ensures.0 c.read_line-q.ensures.1
+loop-k-preserved c = lined_more c.loop-k.invariant c.loop-k-test.true c.requires.1 c.byte_at-b.ensures.0 (sym c.is_letter.ensures ∙ c.if-is_letter.true) c.read_line-q.ensures.value c.read_line-q.ensures.sides_after
 
 pub returns : goal.returns
-returns c = lined_all c.loop-k.invariant (omega arith)
+returns c = let w = lined_all c.loop-k.invariant (omega arith) in record { value = w.0; sides_after = w.1 }

@@ -1,4 +1,3 @@
-use Prim.Native.Nat.{◌-◌}
 use borrow.Author.Rules.{rules}
 use mathlib.Core.Path.{sym, ◌∙◌}
 use native.Mathlib.Omega.{arith}
@@ -21,7 +20,10 @@ pub loop-k-preserved : goal.loop-k-preserved
 loop-k-preserved c = (search rules, passed_more c.loop-k.invariant.1 c.byte_at-b.ensures.0 (sym c.is_digit.ensures ∙ c.if-is_digit.true))
 
 pub returns-else-is_digit : goal.returns-else-is_digit
-returns-else-is_digit c = (passed-stop c.loop-k.invariant.1 c.loop-k-test.true c.byte_at-b.ensures.0 (sym c.is_digit.ensures ∙ c.if-is_digit.false), (passed-fits c.loop-k.invariant.1 c.loop-k.invariant.0, search rules))
+returns-else-is_digit c = record {
+  value_value = passed-stop c.loop-k.invariant.1 c.loop-k-test.true c.byte_at-b.ensures.0 (sym c.is_digit.ensures ∙ c.if-is_digit.false);
+  value_bound = (passed-fits c.loop-k.invariant.1 c.loop-k.invariant.0, search rules);
+}
 
 pub returns : goal.returns
-returns c = (passed_all c.loop-k.invariant.1 (omega arith), (passed-fits c.loop-k.invariant.1 c.loop-k.invariant.0, search rules))
+returns c = record { value_value = passed_all c.loop-k.invariant.1 (omega arith); value_bound = (passed-fits c.loop-k.invariant.1 c.loop-k.invariant.0, search rules) }

@@ -6,4 +6,4 @@ use Rattle.judging.proofs.tests.place_test.Goals as goal
 
 pub returns : goal.returns
 unfolding place_test
-returns c = c.first.ensures ∙ ap₂ ◌then◌ (c.needed-s.ensures ∙ ap (λ (b : Bool). need b 23 0) c..ensures) c.room_test-t.ensures
+returns c = c.first.ensures ∙ ap₂ ◌then◌ (c.needed-s.ensures ∙ ap (λ (b : Bool). need b 23 0) c.fits.ensures) c.room_test-t.ensures

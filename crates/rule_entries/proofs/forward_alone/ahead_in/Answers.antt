@@ -1,7 +1,7 @@
 use borrow.Author.Tests.{lt-ltb, le-ltb}
 use mathlib.Core.Bool.{true, false}
 use mathlib.Core.Path.{sym, ◌∙◌}
-use mathlib.Core.List.{◌∷◌}
+use mathlib.Core.List.{[], ◌∷◌}
 use Rattle.refusal.proofs.RepliedLaws.{reply_refused}
 use Rattle.rule_entries.proofs.ReplyLaws.{named_told}
 use Rattle.rule_lend.proofs.LendLaws.{variable_fine, variable_same}

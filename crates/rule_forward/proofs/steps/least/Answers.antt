@@ -15,4 +15,4 @@ stays : (lost : Bool) (j named : ℕ) → lost ≡ true → named ≤ j → name
 stays lost j named p q = rw (p, le-ltb j named q)
 
 pub returns-else-j-named : goal.returns-else-j-named
-returns-else-j-named c = let a = c.args in stays a.lost a.j a.named (not-false a.lost c.if-not-lost.false) c.if-j-named.false
+returns-else-j-named c = let a = c.args in stays a.lost a.j a.named c.if-not-lost.false c.if-j-named.false

@@ -1,7 +1,5 @@
-use Prim.Native.Nat.{◌-◌}
 use borrow.Author.Rules.{rules}
 use mathlib.Core.Path.{refl, sym, ap, ◌∙◌}
-use mathlib.Core.Bool.{false}
 use native.Mathlib.Omega.{arith}
 use Rattle.mask.specs.Range.{some}
 use Rattle.session.proofs.OpenLaws.{stuck-here, stuck-next}
