@@ -6,24 +6,27 @@
 ghost use Rattle.std.specs.Prelude.{◌≤◌, length};
 
 use reporting::report_file;
+use standard_input::{read_full, zeros};
+use std::io;
+use std::io::{Input, Write};
 
 // Writes the first k bytes.
-fn write_front(text: &[u8], k: usize)
+fn write_front(rt: &impl Print, text: &[u8], k: usize) -> io::Result<()>
     requires { k ≤ length text.now }
 {
-    io::write_all(1, &text[..k]);
+    io::writer(rt).write_all(&text[..k])
 }
 
-fn write_text(text: &[u8; 1024], k: usize)
+fn write_text(rt: &impl Print, text: &[u8; 1024], k: usize) -> io::Result<()>
     requires { k ≤ 1024 }
 {
-    write_front(text, k);
+    write_front(rt, text, k)
 }
 
-fn main() {
-    let mut input = [0u8; 17995];
-    let n = io::read_full(0, &mut input);
+fn main(rt: HostRuntime) -> io::Result<()> {
+    let mut input: [u8; 17995] = zeros();
+    let n = read_full(&mut rt.reader(), &mut input)?;
     let mut text = [0u8; 1024];
     let k = report_file(&input[..n], &mut text);
-    write_text(&text, k);
+    write_text(&rt, &text, k)
 }

@@ -5,40 +5,44 @@
 
 use formula_entries::{WrittenFormula, write_formula};
 use report_text::render_refusal;
+use standard_input::{read_full, zeros};
+use std::io;
+use std::io::{Input, Write};
 
 // The longest text there is, computed by bench/formula/longest.py.
 const TEXT: usize = 4131214;
 
 // Writes the first k bytes, if there are so many.
-fn write_front(text: &[u8], k: usize) {
+fn write_front(rt: &impl Print, text: &[u8], k: usize) -> io::Result<()> {
     if k <= text.len() {
-        io::write_all(1, &text[..k]);
+        return io::writer(rt).write_all(&text[..k]);
     }
+    Ok(())
 }
 
-fn write_text(text: &[u8; TEXT], k: usize) {
-    write_front(text, k);
+fn write_text(rt: &impl Print, text: &[u8; TEXT], k: usize) -> io::Result<()> {
+    write_front(rt, text, k)
 }
 
 // The line of a refused file.
-fn write_refusal(number: u8, place: usize) {
+fn write_refusal(rt: &impl Print, number: u8, place: usize) -> io::Result<()> {
     let mut line = [0u8; 64];
     let k = render_refusal(number as usize, place, &mut line);
-    write_front(&line, k);
+    write_front(rt, &line, k)
 }
 
 fn formula_of(f: &[u8], text: &mut [u8; TEXT]) -> WrittenFormula {
     write_formula(f, text)
 }
 
-fn main() {
-    let mut input = [0u8; 17995];
-    let n = io::read_full(0, &mut input);
+fn main(rt: HostRuntime) -> io::Result<()> {
+    let mut input: [u8; 17995] = zeros();
+    let n = read_full(&mut rt.reader(), &mut input)?;
     let mut text = [0u8; TEXT];
     let w = formula_of(&input[..n], &mut text);
     match w {
-        WrittenFormula::Length(k) => write_text(&text, k),
-        WrittenFormula::Refused(_) => write_front(b"refused 12\n", 11),
-        WrittenFormula::RefusedAt(number, place) => write_refusal(number, place),
+        WrittenFormula::Length(k) => write_text(&rt, &text, k),
+        WrittenFormula::Refused(_) => write_front(&rt, b"refused 12\n", 11),
+        WrittenFormula::RefusedAt(number, place) => write_refusal(&rt, number, place),
     }
 }

@@ -8,6 +8,7 @@ mod stored;
 use position::Position;
 use refusal::both;
 use session::{Played, play, take_back};
+use std::io;
 use stored::{Call, call_at};
 use trial_stored::{JUDGE, MARK, OPEN, PLAY, TAKE_BACK, answers, opens, position_at, told};
 use trial_vectors::{
@@ -78,11 +79,11 @@ fn all_cases(kind: usize, s: &[u8]) -> Tally {
     t
 }
 
-fn main() {
-    let s = input();
-    report(b"play cases ", all_cases(PLAY, &s));
-    report(b"take-back cases ", all_cases(TAKE_BACK, &s));
-    report(b"mark cases ", all_cases(MARK, &s));
-    report(b"open cases ", all_cases(OPEN, &s));
-    report(b"judge cases ", all_cases(JUDGE, &s));
+fn main(rt: HostRuntime) -> io::Result<()> {
+    let s = input(&rt)?;
+    report(&rt, "play cases ", all_cases(PLAY, &s))?;
+    report(&rt, "take-back cases ", all_cases(TAKE_BACK, &s))?;
+    report(&rt, "mark cases ", all_cases(MARK, &s))?;
+    report(&rt, "open cases ", all_cases(OPEN, &s))?;
+    report(&rt, "judge cases ", all_cases(JUDGE, &s))
 }

@@ -1,7 +1,6 @@
 // What reading and look-up show of an accepted file, handed to the writer, gives the very bytes.
 ghost use Rattle.std.specs.Prelude.{◌≤◌, ◌<◌};
 
-use check::same;
 use file_lookup::{look_up, rows};
 use file_reader::{Head, Header, read};
 use file_writer::{Written, write};
@@ -65,7 +64,7 @@ fn front<'a>(numbers: &'a [u16], k: usize) -> &'a [u16] {
 
 // The first k bytes are those of f.
 fn begins(buf: &[u8; 18000], k: usize, f: &[u8]) -> bool {
-    same(part(buf, 0, k), f)
+    part(buf, 0, k) == f
 }
 
 // Whether the writer, handed these numbers, writes f.

@@ -8,6 +8,7 @@ mod boundary;
 mod pairs;
 mod reading;
 
+use std::io;
 use trial_vectors::{
     Tally, before_cases, byte, case_count, counted, input, moved, part, place, report, word,
 };
@@ -48,10 +49,10 @@ fn all_cases(s: &[u8], trial: usize) -> Tally {
     t
 }
 
-fn main() {
-    let s = input();
-    report(b"reading cases ", all_cases(&s, 0));
-    report(b"pairs looked up ", all_cases(&s, 1));
-    report(b"files written back ", all_cases(&s, 2));
-    report(b"boundary rows ", boundary::all_rows());
+fn main(rt: HostRuntime) -> io::Result<()> {
+    let s = input(&rt)?;
+    report(&rt, "reading cases ", all_cases(&s, 0))?;
+    report(&rt, "pairs looked up ", all_cases(&s, 1))?;
+    report(&rt, "files written back ", all_cases(&s, 2))?;
+    report(&rt, "boundary rows ", boundary::all_rows())
 }

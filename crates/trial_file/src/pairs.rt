@@ -2,7 +2,6 @@
 // pair of the next record must be found there, any other pair must be free.
 ghost use Rattle.std.specs.Prelude.{◌≤◌};
 
-use check::same;
 use file_lookup::{Found, look_up, rows};
 use refusal::both;
 use trial_vectors::{Tally, byte, counted, first_variable, moved, part, place};
@@ -21,7 +20,7 @@ fn agrees(f: &[u8], i: usize, j: usize, p: usize, joined: bool) -> bool
     let found = look_up(f, i, j);
     let shown = rows(f, found);
     match found {
-        Found::Rows(w) => both(joined, both(w == p + 4, same(shown, part(f, p + 4, 32)))),
+        Found::Rows(w) => both(joined, both(w == p + 4, shown == part(f, p + 4, 32))),
         Found::Free => !joined,
         Found::Refused(_) => false,
         Found::RefusedAt(_, _) => false,

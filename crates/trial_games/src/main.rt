@@ -6,6 +6,7 @@
 mod stored;
 
 use position::Position;
+use std::io;
 use stored::{Game, game_at};
 use trial_stored::{JUDGE, MARK, answers, needed, opens};
 use trial_vectors::{
@@ -65,10 +66,10 @@ fn all_games(trial: usize, s: &[u8]) -> Tally {
     t
 }
 
-fn main() {
-    let s = input();
-    report(b"verdicts under all sets ", all_games(0, &s));
-    report(b"marks under all sets ", all_games(1, &s));
-    report(b"games opened ", all_games(2, &s));
-    report(b"room one word short ", all_games(3, &s));
+fn main(rt: HostRuntime) -> io::Result<()> {
+    let s = input(&rt)?;
+    report(&rt, "verdicts under all sets ", all_games(0, &s))?;
+    report(&rt, "marks under all sets ", all_games(1, &s))?;
+    report(&rt, "games opened ", all_games(2, &s))?;
+    report(&rt, "room one word short ", all_games(3, &s))
 }

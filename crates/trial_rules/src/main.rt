@@ -13,6 +13,7 @@ mod refusals;
 use calls::called;
 use lists::{masks, same_masks};
 use refusal::both;
+use std::io;
 use trial_vectors::{
     Tally, before_cases, byte, case_count, counted, input, moved, part, place, replied, report,
     same_answer, word,
@@ -86,12 +87,12 @@ fn all_cases(rule: usize, s: &[u8]) -> Tally {
     t
 }
 
-fn main() {
-    let s = input();
-    report(b"arc cases ", all_cases(1, &s));
-    report(b"forward check cases ", all_cases(2, &s));
-    report(b"look ahead cases ", all_cases(3, &s));
-    report(b"pure cases ", all_cases(4, &s));
-    report(b"interchangeable cases ", all_cases(5, &s));
-    report(b"refusals ", refusals::all_refusals());
+fn main(rt: HostRuntime) -> io::Result<()> {
+    let s = input(&rt)?;
+    report(&rt, "arc cases ", all_cases(1, &s))?;
+    report(&rt, "forward check cases ", all_cases(2, &s))?;
+    report(&rt, "look ahead cases ", all_cases(3, &s))?;
+    report(&rt, "pure cases ", all_cases(4, &s))?;
+    report(&rt, "interchangeable cases ", all_cases(5, &s))?;
+    report(&rt, "refusals ", refusals::all_refusals())
 }

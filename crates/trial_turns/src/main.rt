@@ -7,11 +7,12 @@ mod sample;
 mod searches;
 mod stored;
 
+use std::io;
 use trial_vectors::{input, report};
 
-fn main() {
-    report(b"conflict sets ", sample::all_sets());
-    let s = input();
-    report(b"stored turns ", stored::all_turns(false, &s));
-    report(b"all played among them ", stored::all_turns(true, &s));
+fn main(rt: HostRuntime) -> io::Result<()> {
+    report(&rt, "conflict sets ", sample::all_sets())?;
+    let s = input(&rt)?;
+    report(&rt, "stored turns ", stored::all_turns(false, &s))?;
+    report(&rt, "all played among them ", stored::all_turns(true, &s))
 }

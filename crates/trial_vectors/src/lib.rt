@@ -1,14 +1,17 @@
 // What the trial programs share: standard input, numbers and parts of stored cases, answers as numbers, a tally of cases, and the lines
-// of a report. Every read is total: a byte past the end is 0, a part that is not there is empty. It rests on `refusal` and on the kit's
-// `io`. For the trial programs alone.
+// of a report. Every read is total: a byte past the end is 0, a part that is not there is empty. It rests on `refusal` and
+// `standard_input`. For the trial programs alone.
 #![tactic(auto)]
 
-ghost use Rattle.std.specs.Prelude.{◌≡◌, ◌≤◌, ◌<◌, length};
+ghost use Rattle.std.specs.Prelude.{◌≡◌, ◌≤◌, ◌<◌, length, IfOk};
 
 mod answers;
 
 pub use answers::{Answer, refused, refused_at, replied, same_answer};
 use refusal::both;
+use standard_input::{read_full, zeros};
+use std::io;
+use std::io::Input;
 
 // How far a trial has come: where the next case begins, and how many cases were compared and differed.
 #[derive(Clone, Copy)]
@@ -28,12 +31,12 @@ pub fn none_yet() -> Tally {
 }
 
 // Standard input, and zeros behind it.
-pub fn input() -> [u8; 524288]
-    ensures { 524288 ≡ length result }
+pub fn input(rt: &impl Input) -> io::Result<[u8; 524288]>
+    ensures { IfOk result (λ s. 524288 ≡ length s) }
 {
-    let mut s = [0u8; 524288];
-    io::read_full(0, &mut s);
-    s
+    let mut s = zeros();
+    read_full(&mut rt.reader(), &mut s)?;
+    Ok(s)
 }
 
 pub fn byte(s: &[u8], p: usize) -> usize
@@ -120,13 +123,9 @@ pub fn moved(t: Tally, p: usize) -> Tally {
     }
 }
 
-fn line(label: &[u8], number: usize) {
-    io::write_all(1, label);
-    io::print_decimal(1, number as u64);
-    io::write_all(1, b"\n");
-}
-
-pub fn report(label: &[u8], t: Tally) {
-    line(label, t.compared);
-    line(b"differing ", t.differing);
+pub fn report(rt: &impl Print, label: &str, t: Tally) -> io::Result<()> {
+    let compared = t.compared;
+    let differing = t.differing;
+    println!(rt; "{label}{compared}")?;
+    println!(rt; "differing {differing}")
 }
