@@ -35,9 +35,11 @@ some-answered : (t : ℕ) (c : existential_turn-Joined-next-g t) →
     let a = c.args in
     Answered a.g.n a.g.universal a.near.now a.index.now a.rows.now a.g.set.bits a.d c.hand_down.new.room c.if-next-g.room c.if-next-g.o
 some-answered t c =
-    elim c.if-next-g.branch [ existential_turn-then-next-g w ↦ answered (last_replies _ _ _ _ _ _ _ _ _ w.if-next-g.true _ _ w.last_turn-o.ensures) w.room-is w.o-is
-    | existential_turn-else-next-g+then-contains_32 w ↦ answered w.universal_turn.ensures w.room-is w.o-is
-    | existential_turn-else-next-g+else-contains_32 w ↦ answered w.existential_turn.ensures w.room-is w.o-is ]
+    elim c.if-next-g.branch [
+      | existential_turn-then-next-g w ↦ answered (last_replies _ _ _ _ _ _ _ _ _ w.if-next-g.true _ _ w.last_turn-o.ensures) w.room-is w.o-is
+      | existential_turn-else-next-g+then-contains_32 w ↦ answered w.universal_turn.ensures w.room-is w.o-is
+      | existential_turn-else-next-g+else-contains_32 w ↦ answered w.existential_turn.ensures w.room-is w.o-is
+    ]
 
 pub existential_turn-enter-e-requires : goal.existential_turn-enter-e-requires
 existential_turn-enter-e-requires t c =
@@ -137,9 +139,11 @@ each-answered : (t : ℕ) (c : universal_turn-Joined-next-g t) →
     let a = c.args in
     Answered a.g.n a.g.universal a.near.now a.index.now a.rows.now a.g.set.bits a.d c.hand_down.new.room c.if-next-g.room c.if-next-g.o
 each-answered t c =
-    elim c.if-next-g.branch [ universal_turn-then-next-g w ↦ answered (last_replies _ _ _ _ _ _ _ _ _ w.if-next-g.true _ _ w.last_turn-o.ensures) w.room-is w.o-is
-    | universal_turn-else-next-g+then-contains_32 w ↦ answered w.universal_turn.ensures w.room-is w.o-is
-    | universal_turn-else-next-g+else-contains_32 w ↦ answered w.existential_turn.ensures w.room-is w.o-is ]
+    elim c.if-next-g.branch [
+      | universal_turn-then-next-g w ↦ answered (last_replies _ _ _ _ _ _ _ _ _ w.if-next-g.true _ _ w.last_turn-o.ensures) w.room-is w.o-is
+      | universal_turn-else-next-g+then-contains_32 w ↦ answered w.universal_turn.ensures w.room-is w.o-is
+      | universal_turn-else-next-g+else-contains_32 w ↦ answered w.existential_turn.ensures w.room-is w.o-is
+    ]
 
 pub universal_turn-enter-e-requires : goal.universal_turn-enter-e-requires
 universal_turn-enter-e-requires t c =
