@@ -43,6 +43,7 @@ is_fine (Not e p) = false
 pub fine_of : (v : Verdict) → T (is_fine v) → v ≡ Fine
 unfolding is_fine
 fine_of Fine t = refl
+fine_of (Not _ _) t = elim t [ ]
 
 -- Two lists of numbers, and two replies, are the same. No line names a file's refusal.
 unfoldable pub same_numbers : List ℕ → List ℕ → Bool
@@ -54,6 +55,8 @@ same_numbers (a ∷ l) (b ∷ m) = eqb a b && same_numbers l m
 same_numbers_lem : (l m : List ℕ) → T (same_numbers l m) → l ≡ m
 unfolding same_numbers
 same_numbers_lem [] [] t = refl
+same_numbers_lem [] (b ∷ m) t = elim t [ ]
+same_numbers_lem (a ∷ l) [] t = elim t [ ]
 same_numbers_lem (a ∷ l) (b ∷ m) t = let h = and_out (eqb a b) (same_numbers l m) t in ap₂ (λ (x : ℕ) (y : List ℕ). x ∷ y) (eqb→eq a b h.0) (same_numbers_lem l m h.1)
 
 unfoldable pub same_told : Told → Told → Bool
@@ -69,6 +72,11 @@ same_told_lem : (a b : Told) → T (same_told a b) → a ≡ b
 unfolding same_told
 same_told_lem (replied l) (replied m) t = ap replied (same_numbers_lem l m t)
 same_told_lem (refused e) (refused d) t = ap refused (eqb→eq e d t)
+same_told_lem (replied l) (refused e) t = elim t [ ]
+same_told_lem (replied l) (refused_at e p) t = elim t [ ]
+same_told_lem (refused e) (replied m) t = elim t [ ]
+same_told_lem (refused e) (refused_at d p) t = elim t [ ]
+same_told_lem (refused_at e p) b t = elim t [ ]
 
 -- Each line names what is told plainly.
 unfoldable pub lines_pass : List ℕ → Problem → List Call → List Line → Bool
@@ -87,6 +95,7 @@ and_then false k = false
 and_then_lem : (b : Bool) (k : T b → Bool) → T (and_then b k) → (t : T b) × T (k t)
 unfolding and_then
 and_then_lem true k t = (tt, t)
+and_then_lem false k t = elim t [ ]
 
 -- A row passes: its file is of and accepted, and its lines name what is told plainly, in the problem read once.
 unfoldable pub passes : Row → Bool

@@ -17,26 +17,22 @@ over c = from-fresh _ _ _ _ c.fresh-start.ensures c.reached-p.ensures
 marks-are : (c : After-mark-marks) → let a = c.args in
     told c.mark-marks.result ≡ mark_told a.f.now (reached_by a.f.now (calls_of a.calls.now)) a.set (length a.room.now)
 marks-are c = let a = c.args in
-    c.mark-marks.ensures.0 ∙ ap (λ (p : Position). mark_told a.f.now p a.set (length a.room.now)) (over c.HERE.After-reached-p)
+    c.mark-marks.ensures.result_value ∙ ap (λ (p : Position). mark_told a.f.now p a.set (length a.room.now)) (from-fresh _ _ _ _ c.fresh-start.ensures c.reached-p.ensures)
 
 opened : (c : After-open_values-opened) → let a = c.args in
     told_opened c.open_values-opened.result ≡ open_told a.f.now (reached_by a.f.now (calls_of a.calls.now))
 opened c = let a = c.args in
-    c.open_values-opened.ensures.0 ∙ ap (open_told a.f.now) (over c.HERE.After-reached-p)
+    c.open_values-opened.ensures.result_value ∙ ap (open_told a.f.now) (from-fresh _ _ _ _ c.fresh-start.ensures c.reached-p.ensures)
 
 pub returns : goal.returns
 returns c =
     let a = c.args in
-    let e = c.open_values-opened.ensures.1 in (
-      marks-are (goal.at.returns c).After-mark-marks,
-      (
-        opened (goal.at.returns c).After-open_values-opened,
-        (
-          (e.0 ∙ ap (masks_shown a.f.now) (over (goal.at.returns c).After-reached-p), e.1 ∙ ap (counts_shown a.f.now) (over (goal.at.returns c).After-reached-p)),
-          (
-            c.mark-marks.ensures.1 ∙ ap (λ (p : Position). mark_left a.f.now p a.set a.room.now) (over (goal.at.returns c).After-reached-p),
-            λ fine. let t = demand_3 a.f.now fine (calls_of a.calls.now) a.set (length a.room.now) in (λ s r. marks-are (goal.at.returns c).After-mark-marks ∙ t.0 s r, opened (goal.at.returns c).After-open_values-opened ∙ t.1),
-          ),
-        ),
-      ),
-    )
+    let e = c.open_values-opened.ensures.masks_value in
+    let at = goal.at.returns c in
+    record {
+      marks_value = marks-are at.After-mark-marks;
+      opened_value = opened at.After-open_values-opened;
+      masks_value = (e.0 ∙ ap (masks_shown a.f.now) (over at.After-reached-p), e.1 ∙ ap (counts_shown a.f.now) (over at.After-reached-p));
+      room_after = c.mark-marks.ensures.room_after ∙ ap (λ (p : Position). mark_left a.f.now p a.set a.room.now) (over at.After-reached-p);
+      demand3 = λ fine. let t = demand_3 a.f.now fine (calls_of a.calls.now) a.set (length a.room.now) in (λ s r. marks-are at.After-mark-marks ∙ t.0 s r, opened at.After-open_values-opened ∙ t.1);
+    }

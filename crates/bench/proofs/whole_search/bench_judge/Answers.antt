@@ -1,5 +1,5 @@
 use mathlib.Core.Path.{◌≡◌, ap, ◌∙◌}
-use mathlib.Core.List.{List}
+use mathlib.Core.List.{List, []}
 use Prim.Native.Nat.{ℕ}
 use lib.ListN.{length}
 use Rattle.position.specs.declared.Position.{Position}
@@ -19,4 +19,6 @@ fresh-judged f set room left p r k e t l n = (
 )
 
 pub returns : goal.returns
-returns c = fresh-judged _ _ _ _ _ _ _ c.fresh.ensures c.judge.ensures.0 c.judge.ensures.1 c.judged.ensures
+returns c =
+    let w = fresh-judged _ _ _ _ _ _ _ c.fresh.ensures c.judge.ensures.result_value c.judge.ensures.room_after c.judged.ensures in
+    record { value = w.0; room_after = w.1 }
