@@ -9,7 +9,7 @@ Every variable then has 16 ways, each denied in 16 clauses with each of the 31 o
 it and on whether the side before it is another: the place, the number of existential variables before it and the last side are enough. `longest` goes
 through the places and keeps the best text for each of these, so all 2^32 rows of sides are covered.
 
-`longest.py check PROGRAM` compares `length` with what PROGRAM (target/bin/to_qdimacs: a job in, its text out) writes, for the longest job and 200 smaller
+`longest.py check PROGRAM` compares `length` with what PROGRAM (crates/to_qdimacs/out/to_qdimacs: a job in, its text out) writes, for the longest job and 200 smaller
 ones."""
 import random, struct, subprocess, sys
 

@@ -10,5 +10,3 @@ pub mod Replied
 pub mod WideSet
 -- A text put into a caller's buffer.
 pub mod TextLaws
--- The machine values of a move, for the session's two walks.
-pub mod Moved
