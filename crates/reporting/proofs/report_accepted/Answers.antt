@@ -15,4 +15,9 @@ pub render_reply-requires : goal.render_reply-requires
 render_reply-requires c = omega (arith, text-long (goal.at.render_reply-requires c).After-first_marks-k)
 
 pub returns : goal.returns
-returns c = (omega (arith, text-long (goal.at.returns c).After-first_marks-k, c.render_reply.ensures.0), λ fine h. holds_as _ _ (reply_same _ _ _ _ (c.is_won-won.ensures fine h) (c.first_marks-k.ensures fine h).1 (c.first_marks-k.ensures fine h).0) c.render_reply.ensures.0 c.render_reply.ensures.1)
+returns c =
+    let e = c.render_reply.ensures in
+    record {
+      upper_bound = omega (arith, text-long (goal.at.returns c).After-first_marks-k, e.value);
+      reports_accepted = λ fine h. holds_as _ _ (reply_same _ _ _ _ (c.is_won-won.ensures fine h) (c.first_marks-k.ensures fine h).1 (c.first_marks-k.ensures fine h).0) e.value e.out_after;
+    }

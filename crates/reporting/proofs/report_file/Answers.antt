@@ -20,23 +20,21 @@ render_refusal-requires c = omega (arith, refusal-long (goal.at.render_refusal-r
 pub returns-in-Refused : goal.returns-in-Refused
 returns-in-Refused c =
     let q = header_refuses _ _ _ (ap toldHeader (sym c.in-Refused.is) ∙ c.read-r.ensures.0) in
-    let e = c.render_refusal.ensures in (
-      omega (arith, refusal-long (goal.at.returns-in-Refused c).In-Refused, e.0),
-      (
-        (holds_as _ _ (refused-text _ _ _ q) e.0 e.1).ends,
-        (holds_as _ _ (refused-text _ _ _ q) e.0 e.1).bytes,
-      ),
-    )
+    let e = c.render_refusal.ensures in
+    record {
+      upper_bound = omega (arith, refusal-long (goal.at.returns-in-Refused c).In-Refused, e.value);
+      value = (holds_as _ _ (refused-text _ _ _ q) e.value e.out_after).ends;
+      out_after = (holds_as _ _ (refused-text _ _ _ q) e.value e.out_after).bytes;
+    }
 
 pub returns-in-Accepted : goal.returns-in-Accepted
 returns-in-Accepted c =
     let s = header_shows _ _ (ap toldHeader (sym c.in-Accepted.is) ∙ c.read-r.ensures.0) in
     let e = c.report_accepted.ensures in
     let u = c.rules_used.ensures in
-    let w = c.contains_32.ensures in (
-      e.0,
-      (
-        (accepted_holds _ _ s _ _ u w _ _ _ e.1).ends,
-        (accepted_holds _ _ s _ _ u w _ _ _ e.1).bytes,
-      ),
-    )
+    let w = c.contains_32.ensures in
+    record {
+      upper_bound = e.upper_bound;
+      value = (accepted_holds _ _ s _ _ u w _ _ _ e.reports_accepted).ends;
+      out_after = (accepted_holds _ _ s _ _ u w _ _ _ e.reports_accepted).bytes;
+    }
