@@ -2,4 +2,4 @@ use mathlib.Core.Path.{refl, ◌∙◌}
 use Rattle.host.proofs.kb_play.Goals as goal
 
 pub returns : goal.returns
-returns c = c.moved_shown.ensures ∙ rw (c.play.ensures.0, c.play.ensures.1) refl
+returns c = c.moved_shown.ensures ∙ rw (c.play.ensures.answer_value, c.play.ensures.position_value) refl

@@ -2,4 +2,4 @@ use mathlib.Core.Path.{refl, ◌∙◌}
 use Rattle.host.proofs.kb_take_back.Goals as goal
 
 pub returns : goal.returns
-returns c = c.moved_shown.ensures ∙ rw (c.take_back.ensures.0, c.take_back.ensures.1) refl
+returns c = c.moved_shown.ensures ∙ rw (c.take_back.ensures.answer_value, c.take_back.ensures.position_value) refl

@@ -6,4 +6,7 @@ use Rattle.host.proofs.kb_write.Goals as goal
 pub returns : goal.returns
 returns c = let e = c.write.ensures in
     let s = c.set_handed-r.ensures in
-    (c.written_shown.ensures ∙ ap written_of (e.0 ∙ rw s (byte-told _ _ _ _ _ _ _ _)), e.1 ∙ rw s (byte_left _ _ _ _ _ _ _ _))
+    record {
+      value = c.written_shown.ensures ∙ ap written_of (e.result_value ∙ rw s (byte-told _ _ _ _ _ _ _ _));
+      buf_after = e.buf_after ∙ rw s (byte_left _ _ _ _ _ _ _ _);
+    }

@@ -7,11 +7,17 @@ use Rattle.host.proofs.text.fitted.Goals as goal
 
 pub returns-then-buf-k : goal.returns-then-buf-k
 unfolding told
-returns-then-buf-k c = let a = c.args in short a.k a.line.now a.buf.now (omega arith) c.if-buf-k.true
+returns-then-buf-k c =
+    let a = c.args in
+    let h = short a.k a.line.now a.buf.now (omega arith) c.if-buf-k.true in
+    record { result_value = h.0; buf_after = h.1 }
 
 pub slice_bounds-put-end : goal.slice_bounds-put-end
 slice_bounds-put-end c = sym (length-take-le _ _ (omega arith))
 
 pub returns : goal.returns
 unfolding told
-returns c = let a = c.args in long a.k a.line.now _ _ _ c.put.ensures (omega arith) (omega arith)
+returns c =
+    let a = c.args in
+    let h = long a.k a.line.now _ _ _ c.put.ensures (omega arith) (omega arith) in
+    record { result_value = h.0; buf_after = h.1 }

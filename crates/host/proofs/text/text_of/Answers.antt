@@ -7,6 +7,6 @@ pub returns : goal.returns
 unfolding text_told text_left
 returns c =
     let r = c.report_file-k.ensures in
-    let e = front _ _ _ _ r.1.0 r.1.1 in
+    let e = front _ _ _ _ r.value r.out_after in
     let s = c.line_fitted.ensures in
-    (s.0 ∙ rw e refl, s.1 ∙ rw e refl)
+    record { result_value = s.result_value ∙ rw e refl; buf_after = s.buf_after ∙ rw e refl }
