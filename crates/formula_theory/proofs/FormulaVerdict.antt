@@ -7,11 +7,9 @@ use mathlib.Core.List.{List, [], ◌∷◌, ◌++◌}
 use Prim.Native.Nat.{ℕ, zero, suc, ◌+◌, ◌-◌, ◌≤◌, ◌<◌}
 use native.Mathlib.Omega.{arith}
 use lib.Dec.{T, eqb, ltb, lt→ltb, not_T, T_not}
-use Rattle.mask.specs.Range.{some}
 use Rattle.mask.specs.Mask.{bit, mask_of}
 use Rattle.mask.proofs.Logic.{same, holds, test, by_eq, and_in, and_out, or_right}
 use Rattle.mask.proofs.Logic.{clash as contradiction}
-use Rattle.mask.proofs.Range.{some_in, some_out}
 use Rattle.game.specs.Problem.{Problem}
 use Rattle.game.specs.Game.{Play, put, turn, won, wins, satisfied}
 use Rattle.game.specs.Lists.{domains, wins_over}

@@ -1,16 +1,14 @@
 -- Laws of `bit`: each stated once, for every number, place and width. An operation on numbers is the operation on bits at each place;
 -- numbers with the same bits are equal; `ones` counts the bits and `count_trailing_zeros` finds the lowest.
-use mathlib.Core.Path.{◌≡◌, refl, sym, ap, ap₂, ◌∙◌, subst, fun_ext}
+use mathlib.Core.Path.{◌≡◌, refl, sym, ap, ap₂, ◌∙◌, fun_ext}
 use mathlib.Core.Bool.{Bool, true, false, cond, not, ◌&&◌, ◌||◌}
-use Prim.Native.Nat.{ℕ, zero, suc, ◌+◌, ◌-◌, ◌*◌, ◌/◌, ◌%◌, ◌^◌, ◌≤◌, ◌<◌, min, max}
-use native.Mathlib.Nat.{le_of_suc-le-suc, not-suc-le-zero, mod-lt, zero-lt-suc, div-one, pow-suc, div-div-eq-div-mul, mul_comm, div-add-mod', zero-div, zero-mod, mod-eq_of_lt, add_comm, one-mul, zero-mul}
-use native.Mathlib.Numerals.{add-one}
+use Prim.Native.Nat.{ℕ, zero, suc, ◌+◌, ◌*◌, ◌/◌, ◌%◌, ◌^◌, ◌≤◌, ◌<◌, min, max}
+use native.Mathlib.Nat.{le_of_suc-le-suc, not-suc-le-zero, mod-lt, zero-lt-suc, div-one, pow-suc, div-div-eq-div-mul, mul_comm, zero-div, add_comm, one-mul}
 use native.Mathlib.Omega.{arith}
-use lib.Arith.{digits_mod, digits_div, lt-one, bin_ind}
-use lib.Pow.{pow_pos, shl_exact, pow-add}
+use lib.Arith.{digits_mod, lt-one}
+use lib.Pow.{pow_pos, shl_exact}
 use lib.Dec.{eqb, eqb-zero-suc, eqb-suc-zero, eqb-suc-suc}
-use lib.Bits.{bit_and, bit_or, bit_xor, differ, and_step, or_step, xor_step, and_shr, or_shr, xor_shr, and_le_l, or_lt, and_high, shifted_half, shifted_even}
-use borrow.Author.Tests.{ne_eqb}
+use lib.Bits.{bit_and, bit_or, bit_xor, differ, and_step, or_step, xor_step, and_shr, or_shr, xor_shr}
 use lib.Count.{ones, ones_step, count_trailing_zeros, under}
 use Rattle.mask.specs.Range.{count, first}
 use Rattle.mask.specs.Mask.{bit, diff}

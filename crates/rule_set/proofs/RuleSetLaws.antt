@@ -10,7 +10,7 @@ use Rattle.mask.specs.Mask.{bit}
 use Rattle.mask.specs.Range.{each}
 use Rattle.mask.proofs.Range.{each_out}
 use Rattle.mask.proofs.Bits.{bit_high}
-use Rattle.refusal.specs.Told.{Told, replied, refused}
+use Rattle.refusal.specs.Told.{replied, refused}
 use Rattle.rule_set.specs.declared.RuleSet.{RuleSet}
 use Rattle.rule_set.specs.declared.Chosen.TheVariants.{Set, Refused}
 use Rattle.rule_set.specs.RuleSet.{greatest_set, plain_set, usual_set, full_set, is_rule_set, uses, rule_set_of, told}

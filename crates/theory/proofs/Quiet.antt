@@ -8,9 +8,9 @@ use lib.Dec.{T, eqb, ltb}
 use lib.ListN.{get_or, length, set}
 use lib.Seq.{get_or-set_same, get_or-set_other}
 use borrow.Author.Tests.{eq-eqb, eqb-true, lt-ltb, le-ltb, not-false}
-use Rattle.mask.specs.Range.{some, each}
+use Rattle.mask.specs.Range.{some}
 use Rattle.mask.specs.Mask.{bit}
-use Rattle.mask.proofs.Logic.{same, holds, true_holds, fails, clash, test, by_eq}
+use Rattle.mask.proofs.Logic.{holds, true_holds, fails, clash, test, by_eq}
 use Rattle.mask.proofs.Range.{some_out, some_in}
 use Rattle.mask.proofs.Bits.{bit_single}
 use Rattle.game.specs.Problem.{Problem}

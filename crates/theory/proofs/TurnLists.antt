@@ -22,8 +22,8 @@ use Rattle.game.specs.Rule.{uses, Ruled, ListRule, unruled, if_so, and_next}
 use Rattle.game.specs.Arc.{arc_loss, sweep, sweeps, arc}
 use Rattle.game.specs.Forward.{forward_domains, forward}
 use Rattle.game.specs.LookAhead.{ahead_loss, look_ahead}
-use Rattle.game.specs.Pure.{purged, purge}
-use Rattle.game.specs.Interchangeable.{representatives, represent}
+use Rattle.game.specs.Pure.{purged}
+use Rattle.game.specs.Interchangeable.{representatives}
 use Rattle.game.specs.Turn.{first_list, next_list, checks, ahead, narrow_pure, narrow_interchangeable, next_rules, reached}
 use Rattle.theory.specs.TurnList.{AtTurn}
 use Rattle.theory.proofs.Moves.{replace_at, replace_off}

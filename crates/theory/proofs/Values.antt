@@ -25,7 +25,7 @@ use Rattle.game.specs.Skipping.{shown, skipping}
 use Rattle.theory.proofs.Transfer
 use Rattle.theory.proofs.Transfer.{In, Inside}
 use Rattle.theory.proofs.Swap.{start}
-use Rattle.theory.proofs.Laws.{at, start_at, play}
+use Rattle.theory.proofs.Laws.{start_at, play}
 use Rattle.theory.proofs.Moves.{turn_in, put_off, replace_at, replace_off, satisfied_in}
 use Rattle.theory.proofs.Sound.{Outcome, State, Sound}
 use Rattle.theory.proofs.Conflict.{Conflict, conflict_more, conflict-leaf, conflict-universal, conflict_jump, solid-wins}

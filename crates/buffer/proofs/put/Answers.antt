@@ -1,4 +1,4 @@
-use Prim.Native.Nat.{◌<◌, ◌-◌}
+use Prim.Native.Nat.{◌<◌}
 use borrow.Author.Rules.{rules}
 use lib.ListN.{length}
 use native.Mathlib.Numerals.{add-one}

@@ -1,9 +1,7 @@
 use borrow.Author.Rules.{rules}
-use borrow.Author.Tests.{not-true, not-false}
 use mathlib.Core.Path.{sym, ◌∙◌}
 use Rattle.mask.proofs.Members.{low_lt, rest_lt, each_next, each-stop, each_end}
 use Rattle.rule_narrow.proofs.InterchangeLaws.{interchange-start}
-use Rattle.rule_narrow.specs.Narrow.{same_row}
 use Rattle.rule_narrow.proofs.interchange.Goals as goal
 
 pub loop-left-init : goal.loop-left-init

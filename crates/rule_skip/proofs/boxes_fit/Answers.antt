@@ -1,6 +1,4 @@
-use Prim.Native.Nat.{◌-◌}
 use borrow.Author.Rules.{rules}
-use borrow.Author.Tests.{not-true, not-false}
 use mathlib.Core.Path.{sym, ◌∙◌}
 use native.Mathlib.Omega.{arith}
 use Rattle.rule_skip.proofs.BoxLaws.{fit_none, fit_stop, fit_next, fit_end}

@@ -1,9 +1,7 @@
 use borrow.Author.Rules.{rules}
-use borrow.Author.Tests.{not-true, not-false}
 use mathlib.Core.Path.{sym, ◌∙◌}
 use Rattle.mask.proofs.Members.{low_lt, rest_lt}
 use Rattle.rule_skip.proofs.BoxLaws.{goes-start, each_next, each-stop, each_end}
-use Rattle.rule_skip.specs.Skip.{box_goes}
 use Rattle.rule_skip.proofs.goes_above.Goals as goal
 
 pub loop-left-init : goal.loop-left-init

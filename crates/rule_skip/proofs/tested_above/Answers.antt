@@ -1,4 +1,3 @@
-use borrow.Author.Tests.{not-true, not-false}
 use mathlib.Core.Path.{sym, ◌∙◌}
 use Rattle.rule_skip.proofs.BoxLaws.{tested_later, tested_leaf}
 use Rattle.rule_skip.proofs.tested_above.Goals as goal

@@ -1,4 +1,3 @@
-use Prim.Native.Nat.{◌-◌}
 use borrow.Author.Count.{below_none, below_more}
 use borrow.Author.Rules.{rules}
 use lib.Bits.{bit_or}

@@ -1,4 +1,4 @@
-use Prim.Native.Nat.{◌<◌, ◌-◌}
+use Prim.Native.Nat.{◌<◌}
 use lib.Bits.{bit_and}
 use mathlib.Core.Path.{◌≡◌}
 use Rattle.solver_arrays.specs.Arrays.{common_in}

@@ -1,4 +1,4 @@
-use borrow.Author.Tests.{le-leb, lt-leb, not-true, not-false}
+use borrow.Author.Tests.{le-leb, lt-leb}
 use Rattle.refusal.specs.Chain.{◌then◌, need}
 use Rattle.file_layout.specs.Layout.{opened}
 use Rattle.file_layout.proofs.bytes.opened_at.Goals as goal
