@@ -6,18 +6,16 @@ use mathlib.Core.Logic.{◌⊎◌, inl, inr, ⊎_elim}
 use Prim.Native.Nat.{ℕ, zero, suc, ◌+◌, ◌*◌, ◌^◌, ◌≤◌, ◌<◌}
 use native.Mathlib.Omega.{arith}
 use lib.Dec.{T, ltb}
-use lib.ListN.{get_or, length, set, take, replicate, length-replicate, get_or-replicate, get_or-eq_default}
-use lib.Seq.{ext_get_or}
+use lib.ListN.{get_or, length, take}
 use borrow.Author.Tests.{lt-ltb, le-ltb}
 use native.Mathlib.Numerals.{add-one}
 use Rattle.mask.proofs.Logic.{by_eq, by_lt}
 use Rattle.game.specs.Problem.{Problem}
-use Rattle.game.specs.Lists.{list_of, spread}
 use Rattle.game.specs.Position.{legal}
 use Rattle.game.specs.Turn.{first_list}
 use Rattle.game.specs.Reasons.{first_reasons}
 use Rattle.game.specs.Turns.{TurnOf, first}
-use Rattle.theory.proofs.Lists.{length-list_of, get_d_list_of, list_of_same}
+use Rattle.theory.proofs.Lists.{list_of_same}
 use Rattle.solver_arrays.specs.declared.Variables.{Variables}
 use Rattle.solver_arrays.specs.Arrays.{Poses}
 use Rattle.solver_arrays.specs.Words.{list_in, why_in, leaf_in, reason_in, put_reason}
@@ -26,8 +24,6 @@ use Rattle.position.specs.declared.Position.{Position}
 use Rattle.position.specs.Position.{plays_of, fits_in, Written}
 use Rattle.position.proofs.Fitting.{length_plays, fits-legal}
 use Rattle.position.proofs.Narrowing.{written_list, written_other}
-use Rattle.search_words.specs.TurnRoom.{with_run}
-use Rattle.search_words.proofs.RoomLaws.{length_run, run_at, run_other, run-next}
 use Rattle.search_words.proofs.ReasonBounds.{Below, below_out, first_below}
 use Rattle.search_steps.specs.TurnReply.{TurnIn}
 use Rattle.search_run.specs.FirstTurn.{ZeroBelow, words_from, own_reasons, FirstWords}

@@ -1,7 +1,7 @@
 -- The first turn of a run: its words.
 use Rattle.std.specs.Prelude.{◌≡◌, List, ℕ, zero, suc, ◌+◌, ◌^◌, ◌≤◌, ◌<◌, get_or, length, take}
 use Rattle.game.specs.Problem.{Problem}
-use Rattle.game.specs.Lists.{list_of, spread}
+use Rattle.game.specs.Lists.{list_of}
 use Rattle.game.specs.Turn.{first_list}
 use Rattle.game.specs.Reasons.{first_reasons}
 use Rattle.solver_arrays.specs.Words.{list_in, why_in, put_reason}

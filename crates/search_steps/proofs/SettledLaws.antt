@@ -1,6 +1,6 @@
 -- In the words of a turn below another only the new play may have an effect on others, where the rule set has rule 1.
 use mathlib.Core.List.{List}
-use Prim.Native.Nat.{ℕ, ◌-◌, ◌<◌}
+use Prim.Native.Nat.{ℕ, ◌<◌}
 use native.Mathlib.Omega.{arith}
 use lib.ListN.{get_or}
 use Rattle.theory.proofs.Quiet.{turn_quiet}

@@ -1,14 +1,13 @@
 -- Every step of the two turns is a law of WholeTurn.
-use Prim.Native.Nat.{ℕ, ◌<◌, ◌+◌, ◌-◌}
+use Prim.Native.Nat.{ℕ}
 use mathlib.Core.Path.{refl, sym, ◌∙◌}
 use borrow.Author.Rules.{rules}
 use borrow.Author.Tests.{not-true, not-false}
 use native.Mathlib.Omega.{arith}
 use Rattle.mask.proofs.Members.{low_lt, rest_lt}
-use Rattle.search_steps.specs.TurnReply.{room_of}
 use Rattle.search_steps.proofs.SettledLaws.{settled}
 use Rattle.search_steps.proofs.StandLaws.{stated, checked, nonzero, last-stands, last_replies}
-use Rattle.search_turns.proofs.WholeTurn.{AfterRules, Trying, Answered, answered, rules_lost, child_stands, child_blank, child_fits, back_deep, mid_fits, some_begins, some_ends, some-wins, some-leaves, some_goes_on, each_begins, each_ends, each_fails, each_goes_on, each_shrinks, won_mid, won_holds}
+use Rattle.search_turns.proofs.WholeTurn.{AfterRules, Trying, Answered, answered, rules_lost, child_stands, child_blank, child_fits, mid_fits, some_begins, some_ends, some-wins, some-leaves, some_goes_on, each_begins, each_ends, each_fails, each_goes_on, each_shrinks, won_mid, won_holds}
 use Rattle.search_turns.proofs.+turns.Goals as goal
 use Rattle.search_turns.proofs.+turns.Goals.{existential_turn-After-enter-e, existential_turn-After-hand_down, existential_turn-Joined-next-g, existential_turn-then-next-g, existential_turn-else-next-g+then-contains_32, existential_turn-else-next-g+else-contains_32}
 use Rattle.search_turns.proofs.+turns.Goals.{universal_turn-After-enter-e, universal_turn-After-hand_down, universal_turn-Joined-next-g, universal_turn-then-next-g, universal_turn-else-next-g+then-contains_32, universal_turn-else-next-g+else-contains_32}
