@@ -1,6 +1,6 @@
 /* Kickballbox for a C host: job files read, looked up, written, played, judged, marked, and written as boolean formulas.
 
-   The functions are in libhost.a (`rt lib` in crates/host), for x86-64 Linux. Each is proved to end, to stay inside the memory that it
+   The functions are in libhost.a (`host/library` writes it), for x86-64 Linux. Each is proved to end, to stay inside the memory that it
    is lent, to reply what is said here and to write nothing else, for every argument; crates/host has the statements.
 
    What a caller owes: a pointer is good for the length that comes with it (bytes, or 16-bit numbers, which are aligned); what a

@@ -1,0 +1,220 @@
+// The exports of libhost.a (include/kickballbox.h): each calls the function of `host` that has its name, under the same clauses.
+#![tactic(auto)]
+
+ghost use Rattle.std.specs.Prelude.{◌≡◌, length};
+ghost use Rattle.file_reader.specs.Reading.{header_of, domains_of};
+ghost use Rattle.file_lookup.specs.Lookup.{look_up};
+ghost use Rattle.file_bytes.specs.Bytes.{handed};
+ghost use Rattle.file_writer.specs.Writing.{write_told, write_buffer};
+ghost use Rattle.formula_entries.specs.Told.{formula_told, formula_left, judge_formula_told};
+ghost use Rattle.rule_entries.specs.Alone.{arc_told, arc_left, forward_told, forward_left, ahead_told, pure_told, interchangeable_told};
+ghost use Rattle.session.specs.Told.{play_told, play_left, take_back_told, take_back_left, open_told, masks_shown, counts_shown};
+ghost use Rattle.search_run.specs.Run.{held_room};
+ghost use Rattle.judging.specs.Judging.{judge_told, judge_left};
+ghost use Rattle.judging.specs.Searching.{search_found};
+ghost use Rattle.marking.specs.Marking.{mark_told, mark_left};
+ghost use Rattle.host_replies.specs.Replies.{read_file_of, found_of, written_of, answer_of, moved_of, opened_of, judgement_of, marks_of};
+ghost use Rattle.host_replies.specs.Replies.{searched_of, ruled_of, checked_of, looked_of, values_of, formula_judgement_of};
+ghost use Rattle.host.specs.Unpack.{unpack};
+ghost use Rattle.host.specs.Handed.{set_handed};
+ghost use Rattle.host.specs.Text.{text_told, text_left};
+ghost use Rattle.host.specs.Replayed.{replay_of};
+
+use host_replies::{
+    CallAnswer, CheckedList, FormulaJudgement, FoundRows, Judgement, LookedAhead, Marks,
+    MovedPosition, OpenMasks, ReadFile, ReplayedCalls, RuledList, SearchFindings, ValueMask,
+    WrittenBytes,
+};
+use position::Position;
+
+#[unsafe(no_mangle)]
+pub extern "C" fn kb_interface() -> u64
+    ensures { result ≡ 3 }
+{
+    host::kb_interface()
+}
+
+#[unsafe(no_mangle)]
+pub extern "C" fn kb_read(f: &[u8]) -> ReadFile
+    ensures { result ≡ read_file_of (header_of f.now) (domains_of f.now) }
+{
+    host::kb_read(f)
+}
+
+#[unsafe(no_mangle)]
+pub extern "C" fn kb_look_up(f: &[u8], i: u64, j: u64) -> FoundRows
+    ensures { result ≡ found_of (look_up f.now i j) }
+{
+    host::kb_look_up(f, i, j)
+}
+
+#[unsafe(no_mangle)]
+pub extern "C" fn kb_write(
+    buf: &mut [u8],
+    n: u64,
+    m: u64,
+    given: u64,
+    rules: u64,
+    universal: u64,
+    domains: &[u16],
+    constraints: &[u16],
+) -> WrittenBytes
+    ensures value { result ≡ written_of
+        (write_told (handed n m (set_handed given rules) universal domains.now constraints.now)
+        (length buf.old)) }
+    ensures buf_after { buf.new
+        ≡ write_buffer (handed n m (set_handed given rules) universal domains.now constraints.now)
+        buf.old }
+{
+    host::kb_write(buf, n, m, given, rules, universal, domains, constraints)
+}
+
+#[unsafe(no_mangle)]
+pub extern "C" fn kb_report(f: &[u8], buf: &mut [u8]) -> WrittenBytes
+    ensures value { result ≡ written_of (text_told f.now (length buf.old)) }
+    ensures buf_after { buf.new ≡ text_left f.now buf.old }
+{
+    host::kb_report(f, buf)
+}
+
+#[unsafe(no_mangle)]
+pub extern "C" fn kb_play(f: &[u8], p: Position, value: u64) -> MovedPosition
+    ensures { result ≡ moved_of (play_told f.now p value) (play_left f.now p value) }
+{
+    host::kb_play(f, p, value)
+}
+
+#[unsafe(no_mangle)]
+pub extern "C" fn kb_take_back(f: &[u8], p: Position) -> MovedPosition
+    ensures { result ≡ moved_of (take_back_told f.now p) (take_back_left f.now p) }
+{
+    host::kb_take_back(f, p)
+}
+
+#[unsafe(no_mangle)]
+pub extern "C" fn kb_session_play(f: &[u8], s: &mut Position, value: u64) -> CallAnswer
+    ensures { (result ≡ answer_of (play_told f.now s.old value))
+        × (s.new ≡ play_left f.now s.old value) }
+{
+    host::kb_session_play(f, s, value)
+}
+
+#[unsafe(no_mangle)]
+pub extern "C" fn kb_session_take_back(f: &[u8], s: &mut Position) -> CallAnswer
+    ensures { (result ≡ answer_of (take_back_told f.now s.old))
+        × (s.new ≡ take_back_left f.now s.old) }
+{
+    host::kb_session_take_back(f, s)
+}
+
+#[unsafe(no_mangle)]
+pub extern "C" fn kb_open(f: &[u8], p: Position) -> OpenMasks
+    ensures { result ≡ opened_of (open_told f.now p) (masks_shown f.now p) (counts_shown f.now p) }
+{
+    host::kb_open(f, p)
+}
+
+#[unsafe(no_mangle)]
+pub extern "C" fn kb_judge(
+    f: &[u8],
+    plays: u64,
+    a: u64,
+    b: u64,
+    c: u64,
+    d: u64,
+    set: u64,
+) -> Judgement
+    ensures { result ≡ judgement_of (judge_told f.now (unpack plays a b c d) set held_room) }
+{
+    host::kb_judge(f, plays, a, b, c, d, set)
+}
+
+#[unsafe(no_mangle)]
+pub extern "C" fn kb_mark(f: &[u8], plays: u64, a: u64, b: u64, c: u64, d: u64, set: u64) -> Marks
+    ensures { result ≡ marks_of (mark_told f.now (unpack plays a b c d) set held_room) }
+{
+    host::kb_mark(f, plays, a, b, c, d, set)
+}
+
+#[unsafe(no_mangle)]
+pub extern "C" fn kb_judge_in(f: &[u8], p: Position, set: u64, room: &mut [u16]) -> Judgement
+    ensures value { result ≡ judgement_of (judge_told f.now p set (length room.old)) }
+    ensures room_after { room.new ≡ judge_left f.now p set room.old }
+{
+    host::kb_judge_in(f, p, set, room)
+}
+
+#[unsafe(no_mangle)]
+pub extern "C" fn kb_mark_in(f: &[u8], p: Position, set: u64, room: &mut [u16]) -> Marks
+    ensures value { result ≡ marks_of (mark_told f.now p set (length room.old)) }
+    ensures room_after { room.new ≡ mark_left f.now p set room.old }
+{
+    host::kb_mark_in(f, p, set, room)
+}
+
+#[unsafe(no_mangle)]
+pub extern "C" fn kb_search(f: &[u8], p: Position, set: u64) -> SearchFindings
+    ensures { result ≡ searched_of (search_found f.now p set held_room) }
+{
+    host::kb_search(f, p, set)
+}
+
+#[unsafe(no_mangle)]
+pub extern "C" fn kb_replay(f: &[u8], calls: &[u8], set: u64) -> ReplayedCalls
+    ensures { result ≡ replay_of f.now calls.now set }
+{
+    host::kb_replay(f, calls, set)
+}
+
+#[unsafe(no_mangle)]
+pub extern "C" fn kb_arc(f: &[u8], list: &mut [u16]) -> RuledList
+    ensures value { result ≡ ruled_of (arc_told f.now list.old) }
+    ensures list_after { list.new ≡ arc_left f.now list.old }
+{
+    host::kb_arc(f, list)
+}
+
+#[unsafe(no_mangle)]
+pub extern "C" fn kb_forward_check(f: &[u8], list: &mut [u16], x: u64, a: u64) -> CheckedList
+    ensures value { result ≡ checked_of (forward_told f.now list.old x a) }
+    ensures list_after { list.new ≡ forward_left f.now list.old x a }
+{
+    host::kb_forward_check(f, list, x, a)
+}
+
+#[unsafe(no_mangle)]
+pub extern "C" fn kb_look_ahead(f: &[u8], list: &[u16], x: u64) -> LookedAhead
+    ensures { result ≡ looked_of (ahead_told f.now list.now x) }
+{
+    host::kb_look_ahead(f, list, x)
+}
+
+#[unsafe(no_mangle)]
+pub extern "C" fn kb_pure(f: &[u8], list: &[u16], x: u64) -> ValueMask
+    ensures { result ≡ values_of (pure_told f.now list.now x) }
+{
+    host::kb_pure(f, list, x)
+}
+
+#[unsafe(no_mangle)]
+pub extern "C" fn kb_interchangeable(f: &[u8], list: &[u16], x: u64) -> ValueMask
+    ensures { result ≡ values_of (interchangeable_told f.now list.now x) }
+{
+    host::kb_interchangeable(f, list, x)
+}
+
+#[unsafe(no_mangle)]
+pub extern "C" fn kb_formula(f: &[u8], buf: &mut [u8]) -> WrittenBytes
+    ensures value { result ≡ written_of (formula_told f.now (length buf.old)) }
+    ensures buf_after { buf.new ≡ formula_left f.now buf.old }
+{
+    host::kb_formula(f, buf)
+}
+
+#[unsafe(no_mangle)]
+pub extern "C" fn kb_judge_formula(f: &[u8], buf: &mut [u8]) -> FormulaJudgement
+    ensures value { result ≡ formula_judgement_of (judge_formula_told f.now (length buf.old)) }
+    ensures buf_after { buf.new ≡ formula_left f.now buf.old }
+{
+    host::kb_judge_formula(f, buf)
+}
