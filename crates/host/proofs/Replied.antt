@@ -1,5 +1,5 @@
 -- What the entries reply to an accepted file: a rule set above 127 is 8 and more plays than variables are 23, however large the number; every
--- other position that fits is judgeReplied and, unless played out, markReplied. So the room held suffices for every file, and 12 never comes.
+-- other position that fits is judged and, unless played out, marked. So the room held suffices for every file, and 12 never comes.
 use mathlib.Core.Path.{◌≡◌, refl, ap, ◌∙◌}
 use mathlib.Core.Bool.{Bool, cond}
 use mathlib.Core.List.{List, [], ◌∷◌}
@@ -86,12 +86,12 @@ module _ (f : List ℕ) (fine : verdict_of f ≡ Fine) (p : Position) (set : ℕ
       let r = plays_refused P.n P.domain p set h (omega (arith, problem_size f fine)) in
       (ap judgement_of (judge_by (Not 23 0) (stop _ _ 23 0 r)), ap marks_of (mark_by (Not 23 0) (stop _ _ 23 0 r)))
 
-  -- Every position that fits is judgeReplied.
+  -- Every position that fits is judged.
   pub judges : set ≤ greatest_set → T (fits_in p P.n P.domain) → judge_replied ≡ record { kind = 0; number = 0; place = 0; won = cond (verdict P (plays_of p)) 1 0 }
   unfolding judge_test replied_for judgement_of kind_of number_of place_of value_of
   judges h t = ap judgement_of (judge_by Fine (then_ok _ _ (position_taken P.n P.domain p set h t) (room_held P size)))
 
-  -- And it is markReplied, where a variable is left to play.
+  -- And it is marked, where a variable is left to play.
   pub marks : set ≤ greatest_set → T (fits_in p P.n P.domain) → p.plays < n_of f
       → mark_replied ≡ record { kind = 0; number = 0; place = 0; winning = winning_values P (plays_of p); domain = get_or P.domain p.plays 0 }
   unfolding mark_test replied_for marks_of kind_of number_of place_of value_of

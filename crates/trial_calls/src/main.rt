@@ -80,7 +80,7 @@ fn all_cases(kind: usize, s: &[u8]) -> Tally {
 }
 
 fn main(rt: HostRuntime) -> io::Result<()> {
-    let s = input(&rt)?;
+    let s = input(&rt);
     report(&rt, "play cases ", all_cases(PLAY, &s))?;
     report(&rt, "take-back cases ", all_cases(TAKE_BACK, &s))?;
     report(&rt, "mark cases ", all_cases(MARK, &s))?;

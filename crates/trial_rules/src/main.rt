@@ -88,7 +88,7 @@ fn all_cases(rule: usize, s: &[u8]) -> Tally {
 }
 
 fn main(rt: HostRuntime) -> io::Result<()> {
-    let s = input(&rt)?;
+    let s = input(&rt);
     report(&rt, "arc cases ", all_cases(1, &s))?;
     report(&rt, "forward check cases ", all_cases(2, &s))?;
     report(&rt, "look ahead cases ", all_cases(3, &s))?;

@@ -12,7 +12,7 @@ use trial_vectors::{input, report};
 
 fn main(rt: HostRuntime) -> io::Result<()> {
     report(&rt, "conflict sets ", sample::all_sets())?;
-    let s = input(&rt)?;
+    let s = input(&rt);
     report(&rt, "stored turns ", stored::all_turns(false, &s))?;
     report(&rt, "all played among them ", stored::all_turns(true, &s))
 }

@@ -30,13 +30,15 @@ pub fn none_yet() -> Tally {
     }
 }
 
-// Standard input, and zeros behind it.
-pub fn input(rt: &impl Input) -> io::Result<[u8; 524288]>
-    ensures { IfOk result (λ s. 524288 ≡ length s) }
+// Standard input, and zeros behind it. A read that fails is the end of the input.
+pub fn input(rt: &impl Input) -> [u8; 524288]
+    ensures { 524288 ≡ length result }
 {
     let mut s = zeros();
-    read_full(&mut rt.reader(), &mut s)?;
-    Ok(s)
+    match read_full(&mut rt.reader(), &mut s) {
+        Ok(_) => s,
+        Err(_) => s,
+    }
 }
 
 pub fn byte(s: &[u8], p: usize) -> usize

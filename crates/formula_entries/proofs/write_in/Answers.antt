@@ -8,4 +8,4 @@ returns-in-Refused c = short_writes _ _ _ _ _ _ c.measure-s.ensures _ c.formula_
 
 pub returns-in-Fine : goal.returns-in-Fine
 unfolding told
-returns-in-Fine c = long_writes _ _ _ _ _ _ c.measure-s.ensures _ c.formula_test-t.ensures _ c.in-Fine.is c.put_formula.ensures
+returns-in-Fine c = λ P p. let w = long_writes _ _ _ _ _ _ c.measure-s.ensures _ c.formula_test-t.ensures _ c.in-Fine.is c.put_formula.ensures P p in (w.0, w.1)
