@@ -81,9 +81,9 @@ fn all_cases(kind: usize, s: &[u8]) -> Tally {
 
 fn main(rt: HostRuntime) -> io::Result<()> {
     let s = input(&rt);
-    report(&rt, "play cases ", all_cases(PLAY, &s))?;
-    report(&rt, "take-back cases ", all_cases(TAKE_BACK, &s))?;
-    report(&rt, "mark cases ", all_cases(MARK, &s))?;
-    report(&rt, "open cases ", all_cases(OPEN, &s))?;
-    report(&rt, "judge cases ", all_cases(JUDGE, &s))
+    report(&rt, b"play cases ", all_cases(PLAY, &s))?;
+    report(&rt, b"take-back cases ", all_cases(TAKE_BACK, &s))?;
+    report(&rt, b"mark cases ", all_cases(MARK, &s))?;
+    report(&rt, b"open cases ", all_cases(OPEN, &s))?;
+    report(&rt, b"judge cases ", all_cases(JUDGE, &s))
 }

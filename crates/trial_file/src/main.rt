@@ -51,8 +51,8 @@ fn all_cases(s: &[u8], trial: usize) -> Tally {
 
 fn main(rt: HostRuntime) -> io::Result<()> {
     let s = input(&rt);
-    report(&rt, "reading cases ", all_cases(&s, 0))?;
-    report(&rt, "pairs looked up ", all_cases(&s, 1))?;
-    report(&rt, "files written back ", all_cases(&s, 2))?;
-    report(&rt, "boundary rows ", boundary::all_rows())
+    report(&rt, b"reading cases ", all_cases(&s, 0))?;
+    report(&rt, b"pairs looked up ", all_cases(&s, 1))?;
+    report(&rt, b"files written back ", all_cases(&s, 2))?;
+    report(&rt, b"boundary rows ", boundary::all_rows())
 }

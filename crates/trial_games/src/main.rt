@@ -68,8 +68,8 @@ fn all_games(trial: usize, s: &[u8]) -> Tally {
 
 fn main(rt: HostRuntime) -> io::Result<()> {
     let s = input(&rt);
-    report(&rt, "verdicts under all sets ", all_games(0, &s))?;
-    report(&rt, "marks under all sets ", all_games(1, &s))?;
-    report(&rt, "games opened ", all_games(2, &s))?;
-    report(&rt, "room one word short ", all_games(3, &s))
+    report(&rt, b"verdicts under all sets ", all_games(0, &s))?;
+    report(&rt, b"marks under all sets ", all_games(1, &s))?;
+    report(&rt, b"games opened ", all_games(2, &s))?;
+    report(&rt, b"room one word short ", all_games(3, &s))
 }

@@ -89,10 +89,10 @@ fn all_cases(rule: usize, s: &[u8]) -> Tally {
 
 fn main(rt: HostRuntime) -> io::Result<()> {
     let s = input(&rt);
-    report(&rt, "arc cases ", all_cases(1, &s))?;
-    report(&rt, "forward check cases ", all_cases(2, &s))?;
-    report(&rt, "look ahead cases ", all_cases(3, &s))?;
-    report(&rt, "pure cases ", all_cases(4, &s))?;
-    report(&rt, "interchangeable cases ", all_cases(5, &s))?;
-    report(&rt, "refusals ", refusals::all_refusals())
+    report(&rt, b"arc cases ", all_cases(1, &s))?;
+    report(&rt, b"forward check cases ", all_cases(2, &s))?;
+    report(&rt, b"look ahead cases ", all_cases(3, &s))?;
+    report(&rt, b"pure cases ", all_cases(4, &s))?;
+    report(&rt, b"interchangeable cases ", all_cases(5, &s))?;
+    report(&rt, b"refusals ", refusals::all_refusals())
 }

@@ -11,8 +11,8 @@ use std::io;
 use trial_vectors::{input, report};
 
 fn main(rt: HostRuntime) -> io::Result<()> {
-    report(&rt, "conflict sets ", sample::all_sets())?;
+    report(&rt, b"conflict sets ", sample::all_sets())?;
     let s = input(&rt);
-    report(&rt, "stored turns ", stored::all_turns(false, &s))?;
-    report(&rt, "all played among them ", stored::all_turns(true, &s))
+    report(&rt, b"stored turns ", stored::all_turns(false, &s))?;
+    report(&rt, b"all played among them ", stored::all_turns(true, &s))
 }

@@ -3,7 +3,7 @@
 // `standard_input`. For the trial programs alone.
 #![tactic(auto)]
 
-ghost use Rattle.std.specs.Prelude.{◌≡◌, ◌≤◌, ◌<◌, length, IfOk};
+ghost use Rattle.std.specs.Prelude.{◌≡◌, ◌≤◌, ◌<◌, length};
 
 mod answers;
 
@@ -11,7 +11,7 @@ pub use answers::{Answer, refused, refused_at, replied, same_answer};
 use refusal::both;
 use standard_input::{read_full, zeros};
 use std::io;
-use std::io::Input;
+use std::io::{Input, Write};
 
 // How far a trial has come: where the next case begins, and how many cases were compared and differed.
 #[derive(Clone, Copy)]
@@ -125,9 +125,12 @@ pub fn moved(t: Tally, p: usize) -> Tally {
     }
 }
 
-pub fn report(rt: &impl Print, label: &str, t: Tally) -> io::Result<()> {
-    let compared = t.compared;
-    let differing = t.differing;
-    println!(rt; "{label}{compared}")?;
-    println!(rt; "differing {differing}")
+fn line(rt: &impl Print, label: &[u8], number: usize) -> io::Result<()> {
+    io::writer(rt).write_all(label)?;
+    println!(rt; "{number}")
+}
+
+pub fn report(rt: &impl Print, label: &[u8], t: Tally) -> io::Result<()> {
+    line(rt, label, t.compared)?;
+    line(rt, b"differing ", t.differing)
 }
