@@ -1,22 +1,12 @@
 // Judging as a C function, for bench/search: 1 won, 0 lost, else refused.
 ghost use Rattle.std.specs.Prelude.{◌≡◌, [], length};
 ghost use Rattle.position.specs.Position.{shown};
-ghost use Rattle.judging.specs.Judging.{told, judge_told, judge_left};
+ghost use Rattle.judging.specs.Judging.{judge_told, judge_left};
 ghost use Rattle.bench.specs.Number.{as_number};
 
-use judging::{Judged, judge};
+use crate::number::number;
+use judging::judge;
 use position::fresh;
-
-fn judged(r: Judged) -> u64
-    ensures { result ≡ as_number 2 (told r) }
-{
-    match r {
-        Judged::Won => 1,
-        Judged::Lost => 0,
-        Judged::Refused(_) => 2,
-        Judged::RefusedAt(_, _) => 3,
-    }
-}
 
 // The fresh position.
 #[unsafe(no_mangle)]
@@ -24,5 +14,5 @@ pub extern "C" fn bench_judge(f: &[u8], set: usize, room: &mut [u16]) -> u64
     ensures value { result ≡ as_number 2 (judge_told f.now (shown []) set (length room.old)) }
     ensures room_after { room.new ≡ judge_left f.now (shown []) set room.old }
 {
-    judged(judge(f, fresh(), set, room))
+    number(judge(f, fresh(), set, room).map(|won| won as u64), 2)
 }

@@ -3,7 +3,7 @@ use Prim.Native.Nat.{ℕ, zero, suc, ◌+◌, ◌≤◌, ◌<◌, min}
 use mathlib.Core.Path.{◌≡◌, refl, sym, ap, ◌∙◌, subst}
 use mathlib.Core.List.{List, [], ◌∷◌, ◌++◌, append-nil}
 use lib.ListN.{length, length-append, set, take, drop, get_or}
-use lib.Seq.{take-suc, take_all}
+use lib.Seq.{take-suc}
 use native.Mathlib.Omega.{arith}
 use Rattle.mask.proofs.Logic.{by_lt}
 use Rattle.buffer.specs.Stored.{stored, joined, together}
@@ -67,9 +67,6 @@ pub put-joined : {l l' l'' : List ℕ} {at r r' : ℕ} (g : ℕ → List ℕ) (j
 unfolding joined
 put-joined g j p q = put_behind p q
 
--- One more byte of a text; all bytes of it.
+-- One more byte of a text.
 pub put_one : {l l' l'' : List ℕ} {at r r' : ℕ} (text : List ℕ) (k : ℕ) → k < length text → Put l at (take k text) r l' → Put l' r (get_or text k 0 ∷ []) r' l'' → Put l at (take (suc k) text) r' l''
 put_one {l} {l'} {l''} {at} {r} {r'} text k h p q = subst (λ (v : List ℕ). Put l at v r' l'') (sym (take-suc text k 0 h)) (put_behind p q)
-
-pub put_whole : {l l' : List ℕ} {at r : ℕ} (text : List ℕ) (k : ℕ) → length text ≤ k → Put l at (take k text) r l' → Put l at text r l'
-put_whole {l} {l'} {at} {r} text k h p = subst (λ (v : List ℕ). Put l at v r l') (take_all k text h) p

@@ -3,17 +3,10 @@
 // left out, so the same functions measure a text and write it.
 #![tactic(auto)]
 
-ghost use Rattle.std.specs.Prelude.{◌≡◌, [], ◌∷◌, ◌+◌, ◌<◌, min};
+ghost use Rattle.std.specs.Prelude.{◌≡◌, [], ◌∷◌, ◌<◌};
 ghost use Rattle.buffer.specs.Decimal.{decimal};
-ghost use Rattle.buffer.specs.Put.{largest, Put};
+ghost use Rattle.buffer.specs.Put.{Put};
 ghost use Rattle.buffer.specs.Decimal.{digit as Decimal·digit};
-
-// The number behind x, or x where that is the largest.
-pub fn next(x: usize) -> usize
-    ensures { result ≡ min largest (x + 1) }
-{
-    if x < 18446744073709551615 { x + 1 } else { x }
-}
 
 // A byte.
 pub fn put_byte(out: &mut [u8], at: usize, b: u8) -> usize
@@ -21,10 +14,8 @@ pub fn put_byte(out: &mut [u8], at: usize, b: u8) -> usize
 {
     if at < out.len() {
         out[at] = b;
-        next(at)
-    } else {
-        next(at)
     }
+    at.saturating_add(1)
 }
 
 // A text.
@@ -32,10 +23,8 @@ pub fn put(out: &mut [u8], at: usize, text: &[u8]) -> usize
     ensures { Put out.old at text.now result out.new }
 {
     let mut e = at;
-    let mut k = 0;
-    while k < text.len() {
-        e = put_byte(out, e, text[k]);
-        k += 1;
+    for b in text {
+        e = put_byte(out, e, *b);
     }
     e
 }
@@ -45,7 +34,7 @@ fn digit(d: usize) -> u8
     requires { d < 10 }
     ensures { result ≡ Decimal·digit d }
 {
-    48 + d as u8
+    b'0' + d as u8
 }
 
 // A number in decimal: the digits of its tenth, then its last.

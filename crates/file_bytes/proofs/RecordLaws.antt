@@ -1,13 +1,14 @@
 -- How long each record is, and a record stored behind those before it.
-use Prim.Native.Nat.{ℕ, suc, ◌+◌, ◌*◌, ◌≤◌}
+use Prim.Native.Nat.{ℕ, suc, ◌+◌, ◌*◌, ◌/◌, ◌%◌, ◌≤◌, ◌<◌}
 use mathlib.Core.Path.{◌≡◌, refl, ap, ◌∙◌}
 use mathlib.Core.Bool.{Bool}
-use mathlib.Core.List.{List, ◌++◌}
-use lib.ListN.{length, length-append}
+use mathlib.Core.List.{List, [], ◌∷◌, ◌++◌}
+use lib.ListN.{length, get_or, set, length-append}
+use native.Mathlib.Numerals.{add-one}
 use native.Mathlib.Omega.{arith}
-use Rattle.file_layout.specs.declared.Rules.{Rules}
-use Rattle.file_layout.specs.declared.Rules.TheVariants.{Absent, Given}
-use Rattle.file_layout.specs.Layout.{CT, EN}
+use Rattle.std.specs.Prelude.{Option, None, Some}
+use Rattle.std.specs.Int.{w16, to_le_bytes}
+use Rattle.file_layout.specs.Layout.{QP, RS, CT, EN}
 use Rattle.buffer.specs.Stored.{stored}
 use Rattle.file_bytes.specs.Bytes.{mark_bytes, word_bytes, qp_bytes, rs_bytes, head_bytes, variable_mark, variable_bytes, variables_bytes, pair_bytes, rows_bytes, constraint_bytes, constraints_bytes, Handed, variables_in, constraints_in, domain_in, one_in, two_in, row_handed, bytes_of, start_of, length_of}
 use Rattle.mask.specs.Mask.{bit}
@@ -25,10 +26,10 @@ unfolding word_bytes
 length-word w = refl
 
 -- The head ends where the variables begin.
-pub length_head : (n m : ℕ) (r : Rules) → length (head_bytes n m r) ≡ start_of r
+pub length_head : (n m : ℕ) (r : Option ℕ) → length (head_bytes n m r) ≡ start_of r
 unfolding head_bytes qp_bytes rs_bytes start_of mark_bytes word_bytes
-length_head n m Absent = refl
-length_head n m (Given k) = refl
+length_head n m None = refl
+length_head n m (Some k) = refl
 
 -- A variable takes 4 bytes, a row 2, a constraint 36, of which 4 are its mark and pair; each stands so far behind the one before it.
 pub length_variable : (universal : Bool) (domain : ℕ) → length (variable_bytes universal domain) ≡ 4
@@ -59,14 +60,14 @@ constraints-row one two row = row_of_width (λ t. constraint_bytes (one t) (two 
 -- ---- where the parts of a file begin
 
 -- The variables begin at 5, or at 8 behind a rule set.
-pub start_least : (r : Rules) → 5 ≤ start_of r
+pub start_least : (r : Option ℕ) → 5 ≤ start_of r
 unfolding start_of
-start_least Absent = omega arith
-start_least (Given k) = omega arith
+start_least None = omega arith
+start_least (Some k) = omega arith
 
-pub start_given : (r : Rules) (k : ℕ) → r ≡ Given k → start_of r ≡ 8
+pub start_some : (r : Option ℕ) (k : ℕ) → r ≡ Some k → start_of r ≡ 8
 unfolding start_of
-start_given r k e = rw e
+start_some r k e = rw e
 
 module _ (h : Handed) where
   abbrev head_in : List ℕ
@@ -112,14 +113,28 @@ module _ (h : Handed) where
 
 -- ---- a record behind those before it
 
--- `QP` alone, or with `RS` behind it.
-pub head_absent : (l : List ℕ) (n m : ℕ) → stored l 0 (qp_bytes n m) ≡ stored l 0 (head_bytes n m Absent)
-unfolding head_bytes qp_bytes rs_bytes mark_bytes word_bytes
-head_absent l n m = refl
+-- Two bytes, one behind the other.
+pub two_stored : (l two : List ℕ) (i : ℕ) → set (set l i (get_or two 0 0)) (i + 1) (get_or two 1 0) ≡ stored l i (mark_bytes two)
+unfolding mark_bytes stored
+two_stored l two i = rw add-one
 
-pub head_given : (l : List ℕ) (n m k : ℕ) → stored (stored l 0 (qp_bytes n m)) 5 (rs_bytes (Given k)) ≡ stored l 0 (head_bytes n m (Given k))
+-- A number of two bytes, as the library takes it apart.
+pub word_is : (w : ℕ) → w < 65536 → mark_bytes (to_le_bytes w16 w) ≡ word_bytes w
+unfolding mark_bytes word_bytes
+word_is w h = let e : w / 256 % 256 ≡ w / 256 = omega arith in ap (λ (y : ℕ). w % 256 ∷ y ∷ []) e
+
+-- `QP` alone, or with `RS` behind it.
+abbrev pub head_first : List ℕ → ℕ → ℕ → List ℕ
+head_first l n m = stored (set (stored l 0 (mark_bytes QP)) 2 n) 3 (word_bytes m)
+
+pub head_none : (l : List ℕ) (n m : ℕ) (r : Option ℕ) → r ≡ None → head_first l n m ≡ stored l 0 (head_bytes n m r)
 unfolding head_bytes qp_bytes rs_bytes stored mark_bytes word_bytes
-head_given l n m k = refl
+head_none l n m r e = rw e
+
+pub head_some : (l : List ℕ) (n m k : ℕ) (r : Option ℕ) → r ≡ Some k →
+    set (stored (head_first l n m) 5 (mark_bytes RS)) 7 k ≡ stored l 0 (head_bytes n m r)
+unfolding head_bytes qp_bytes rs_bytes stored mark_bytes word_bytes
+head_some l n m k r e = rw e
 
 -- A mark and a domain behind it; one more variable; one more row.
 pub variable_stored : (l : List ℕ) (i : ℕ) (universal : Bool) (domain : ℕ) →

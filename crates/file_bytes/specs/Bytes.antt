@@ -1,10 +1,8 @@
 -- The bytes of a problem, record by record: what the writer writes. A record's numbers are functions here, of a variable, of a
 -- constraint, and of a row of a constraint; `bytes_of` takes them from what the writer is handed.
-use Rattle.std.specs.Prelude.{ℕ, ◌+◌, ◌*◌, ◌/◌, ◌%◌, ◌≤◌, Bool, true, false, List, [], ◌∷◌, ◌++◌, length, get_or}
+use Rattle.std.specs.Prelude.{ℕ, ◌+◌, ◌*◌, ◌/◌, ◌%◌, ◌≤◌, Bool, true, false, List, [], ◌∷◌, ◌++◌, length, get_or, Option, None, Some}
 use Rattle.mask.specs.Mask.{bit}
 use Rattle.buffer.specs.Stored.{joined}
-use Rattle.file_layout.specs.declared.Rules.{Rules}
-use Rattle.file_layout.specs.declared.Rules.TheVariants.{Absent, Given}
 use Rattle.file_bytes.specs.declared.Numbers.{Numbers}
 use Rattle.file_layout.specs.Layout.{QP, RS, VE, VA, CT, EN}
 
@@ -20,11 +18,11 @@ unfoldable pub qp_bytes : ℕ → ℕ → List ℕ
 qp_bytes n m = mark_bytes QP ++ (n ∷ []) ++ word_bytes m
 
 -- `RS`, where there is a rule set.
-unfoldable pub rs_bytes : Rules → List ℕ
-rs_bytes Absent = []
-rs_bytes (Given k) = mark_bytes RS ++ (k ∷ [])
+unfoldable pub rs_bytes : Option ℕ → List ℕ
+rs_bytes None = []
+rs_bytes (Some k) = mark_bytes RS ++ (k ∷ [])
 
-unfoldable pub head_bytes : ℕ → ℕ → Rules → List ℕ
+unfoldable pub head_bytes : ℕ → ℕ → Option ℕ → List ℕ
 head_bytes n m rules = qp_bytes n m ++ rs_bytes rules
 
 -- `VA` or `VE`: two bytes, a mask of values.
@@ -57,12 +55,12 @@ constraints_bytes one two row = joined (λ t. constraint_bytes (one t) (two t) (
 pub record Handed : Type 0 where
   pub n : ℕ
   pub m : ℕ
-  pub rules : Rules
+  pub rules : Option ℕ
   pub universal : ℕ
   pub domains : List ℕ
   pub constraints : List ℕ
 
-abbrev pub handed : ℕ → ℕ → Rules → ℕ → List ℕ → List ℕ → Handed
+abbrev pub handed : ℕ → ℕ → Option ℕ → ℕ → List ℕ → List ℕ → Handed
 handed n m rules universal domains constraints =
     record { n = n; m = m; rules = rules; universal = universal; domains = domains; constraints = constraints }
 
@@ -86,10 +84,8 @@ two_in constraints t = get_or constraints (18 * t + 1) 0
 abbrev pub row_handed : List ℕ → ℕ → ℕ → ℕ
 row_handed constraints t = from constraints (18 * t + 2)
 
--- Counts in range, and lists as long as they say.
+-- Lists as long as the counts say.
 pub record Sized (h : Handed) : Type 0 where
-  pub variables : h.n ≤ 32
-  pub pairs : h.m ≤ 496
   pub masks : h.n ≤ length h.domains
   pub rows : 18 * h.m ≤ length h.constraints
 
@@ -105,9 +101,9 @@ unfoldable pub bytes_of : Handed → List ℕ
 bytes_of h = ((head_bytes h.n h.m h.rules ++ variables_in h) ++ constraints_in h) ++ mark_bytes EN
 
 -- Where the variables begin, and "The length is 7 + 4n + 36m, plus 3 with `RS`".
-unfoldable pub start_of : Rules → ℕ
-start_of Absent = 5
-start_of (Given k) = 8
+unfoldable pub start_of : Option ℕ → ℕ
+start_of None = 5
+start_of (Some k) = 8
 
 unfoldable pub length_of : Handed → ℕ
 length_of h = start_of h.rules + 4 * h.n + 36 * h.m + 2

@@ -2,13 +2,11 @@
 // `file_layout` and on the definitions and laws of `buffer`. Every function here is for `file_writer`.
 #![tactic(auto)]
 
-mod head;
+ghost use Rattle.std.specs.Prelude.{◌≤◌};
+
 mod put;
 mod records;
-
-use file_layout::Rules;
-pub use head::length_of;
-pub use records::put_all;
+mod whole;
 
 // The numbers that the writer is handed beside its two lists: variables and constraints, the rule set or none, the universal
 // variables as bits.
@@ -16,6 +14,7 @@ pub use records::put_all;
 pub struct Numbers {
     pub n: usize,
     pub m: usize,
-    pub rules: Rules,
+    pub rules: Option<u8>,
     pub universal: u64,
+    ghost counts: { (n ≤ 32) × (m ≤ 496) },
 }

@@ -9,7 +9,7 @@ use native.Mathlib.Omega.{arith}
 use Rattle.mask.specs.Mask.{bit}
 use Rattle.mask.proofs.Logic.{and_out}
 use Rattle.mask.proofs.Range.{each_out}
-use Rattle.refusal.specs.declared.Verdict.TheVariants.{Fine}
+use Rattle.refusal.specs.Chain.{Fine}
 use Rattle.file_layout.specs.Layout.{n_of, m_of, variables_at, domain_at, pair_at}
 use Rattle.file_layout.specs.Numbers.{pair_of, row_fits}
 use Rattle.file_layout.proofs.NumberLaws.{constraints_most}

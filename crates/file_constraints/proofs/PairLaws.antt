@@ -11,7 +11,7 @@ use Rattle.mask.specs.Range.{some}
 use Rattle.mask.specs.Mask.{bit}
 use Rattle.mask.proofs.Logic.{same, holds, true_holds, fails, clash, and_in, and_out, or_left, or_right, or_out}
 use Rattle.mask.proofs.Range.{some_out, some_in}
-use Rattle.refusal.specs.declared.Verdict.TheVariants.{Fine}
+use Rattle.refusal.specs.Chain.{Fine}
 use Rattle.refusal.specs.Told.{Told, replied, refused, refused_at}
 use Rattle.file_layout.specs.Layout.{n_of, m_of, row_at, pair_at}
 use Rattle.file_layout.specs.Numbers.{pair_of}

@@ -8,6 +8,7 @@ ghost use Rattle.file_constraints.specs.Constraints.{constraints_at, constraint_
 use file_layout::{byte_at, variables_at, word_at};
 
 // Where the constraints begin, asked once for a file.
+#[tactic(auto, using(file_layout::proofs::LayoutLaws::start_most), unfolding(file_layout::specs::Layout::constraints_at))]
 pub fn constraints_at(f: &[u8]) -> usize
     ensures { result ≡ constraints_at f.now }
 {
@@ -15,6 +16,7 @@ pub fn constraints_at(f: &[u8]) -> usize
 }
 
 // The lower variable of constraint t of those from q on.
+#[tactic(auto, unfolding(crate::specs::Constraints::Whole))]
 pub fn constraint_one(f: &[u8], q: usize, t: usize) -> usize
     requires { Whole f.now q t }
     ensures { result ≡ constraint_one f.now q t }
@@ -23,6 +25,7 @@ pub fn constraint_one(f: &[u8], q: usize, t: usize) -> usize
 }
 
 // Its higher variable.
+#[tactic(auto, unfolding(crate::specs::Constraints::constraint_two, crate::specs::Constraints::Whole))]
 pub fn constraint_two(f: &[u8], q: usize, t: usize) -> usize
     requires { Whole f.now q t }
     ensures { result ≡ constraint_two f.now q t }
@@ -31,6 +34,7 @@ pub fn constraint_two(f: &[u8], q: usize, t: usize) -> usize
 }
 
 // Its row a.
+#[tactic(auto, unfolding(crate::specs::Constraints::Whole))]
 pub fn constraint_row(f: &[u8], q: usize, t: usize, a: usize) -> u16
     requires { Whole f.now q t × (a < 16) }
     ensures { result ≡ constraint_row f.now q t a }

@@ -142,19 +142,6 @@ module _ (l f : List ℕ) (q m : ℕ) (size : length l ≡ 1024) (pairs : Constr
       index_more k x (h k (omega arith)) (g k (omega arith))
       ∙ index_none k x (λ t s. h t (omega arith)) (λ t s. g t (omega arith))
 
-  -- No block above those of the constraints.
-  pub index_most : ((x : ℕ) → get_or l x 0 ≡ 0) → (k : ℕ) → k ≤ m → (x : ℕ) → get_or (index_to l f q k) x 0 ≤ 2 * k
-  unfolding index_to index_with
-  index_most z zero h x = omega (arith, z x)
-  index_most z (suc k) h x =
-      let o = pairs.order k (omega arith) in
-      by_eq x (32 * two k + one k)
-      (λ e. rw e (omega (arith, numbered_back (index_to l f q k) (one k) (two k) k (omega (arith, length_index k)))))
-      (λ d.
-      by_eq x (32 * one k + two k)
-      (λ e. rw e (omega (arith, numbered_on (index_to l f q k) (one k) (two k) k o.0 o.1 (omega (arith, length_index k)))))
-      (λ c. omega (arith, numbered_other (index_to l f q k) (one k) (two k) k x c d, index_most z k (omega arith) x)))
-
 -- ---- neighbours
 
 -- Disjunctions of three, in another order.

@@ -7,7 +7,7 @@ use lib.Seq.{length-take-le, get_or-take, ext_get_or}
 use native.Mathlib.Omega.{arith}
 use Rattle.game.specs.Lists.{list_of}
 use Rattle.theory.proofs.Lists.{length-list_of, get_d_list_of}
-use Rattle.refusal.specs.declared.Verdict.TheVariants.{Fine}
+use Rattle.refusal.specs.Chain.{Fine}
 use Rattle.file_reader.specs.Reading.{n_of, domain_of, domains_of, verdict_of}
 use Rattle.file_reader.proofs.Accepted.{variables_most, domains-length, domain_read}
 use Rattle.file_decoder.specs.FileProblem.{problem_of}

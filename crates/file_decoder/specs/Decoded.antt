@@ -1,25 +1,20 @@
 -- What decoding leaves in the arrays, and what an entry is given by it.
-use Rattle.std.specs.Prelude.{ℕ, ◌≤◌, ◌≡◌, true, false, List, take}
-use Rattle.solver_arrays.specs.declared.Variables.{Variables}
-use Rattle.solver_arrays.specs.Arrays.{InRange, Poses}
-use Rattle.refusal.specs.declared.Verdict.TheVariants.{Fine}
-use Rattle.refusal.specs.declared.Verdict.TheVariants.{Refused as Not}
+use Rattle.std.specs.Prelude.{ℕ, ◌≡◌, Result, Ok, Err, List, take}
+use Rattle.solver_arrays.specs.declared.arrays.Arrays.{Arrays}
+use Rattle.solver_arrays.specs.Arrays.{Poses}
+use Rattle.refusal.specs.declared.reason.Fault.{Fault}
+use Rattle.refusal.specs.Chain.{Fine}
 use Rattle.file_reader.specs.Reading.{n_of, verdict_of}
-use Rattle.file_decoder.specs.declared.Decoded.{Decoded}
 use Rattle.file_decoder.specs.FileProblem.{problem_of, ordinary_of}
 
--- An accepted file f, of which the first n of the variables v that are decoded are to play, with the file's own domains; and the arrays.
-pub record FileGiven (f : List ℕ) (n : ℕ) (v : Variables) (near index rows : List ℕ) : Type 0 where
+-- An accepted file f and its arrays A, of which the file's own variables are to play, with its domains.
+pub record FileGiven (f : List ℕ) (A : Arrays) : Type 0 where
   pub fine : verdict_of f ≡ Fine
-  pub size : n ≡ n_of f
-  pub own : n ≤ v.n
-  pub most : v.n ≤ 32
-  pub range : InRange index
-  pub poses : Poses (ordinary_of f fine) v near index rows
-  pub domain : (problem_of f fine).domain ≡ take n v.domains
+  pub size : A.own ≡ n_of f
+  pub poses : Poses (ordinary_of f fine) A
+  pub domain : (problem_of f fine).domain ≡ take A.own A.domains
 
--- The reply r of decoding f into arrays that held near₀, index₀ and rows₀: an accepted file is given, a refused one leaves them.
-pub record Decodes (f near₀ index₀ rows₀ near index rows : List ℕ) (r : Decoded) : Type 0 where
-  pub given : r.refused ≡ false → FileGiven f r.n r.variables near index rows
-  pub refused : r.refused ≡ true → verdict_of f ≡ Not r.number r.place
-  pub kept : (e p : ℕ) → verdict_of f ≡ Not e p → (near ≡ near₀) × (index ≡ index₀) × (rows ≡ rows₀)
+-- The reply r of decoding f: an accepted file is given, a refused one tells why and where.
+pub record Decodes (f : List ℕ) (r : Result Arrays Fault) : Type 0 where
+  pub given : (A : Arrays) → r ≡ Ok A → FileGiven f A
+  pub refused : (e : Fault) → r ≡ Err e → verdict_of f ≡ Err e

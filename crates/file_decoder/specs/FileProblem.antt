@@ -3,7 +3,7 @@ use Rattle.std.specs.Prelude.{ℕ, ◌≡◌, List}
 use Rattle.game.specs.Problem.{Problem}
 use Rattle.game.specs.Lists.{list_of}
 use Rattle.theory.proofs.Lists.{length-list_of, list_of-below, list_of-some}
-use Rattle.refusal.specs.declared.Verdict.TheVariants.{Fine}
+use Rattle.refusal.specs.Chain.{Fine}
 use Rattle.file_reader.specs.Reading.{n_of, domain_of, universal_of, verdict_of}
 use Rattle.file_reader.proofs.Accepted.{domain_small, domain-full}
 use Rattle.file_constraints.specs.Pairs.{constrained_of, compatible_of}

@@ -1,13 +1,18 @@
 -- The arrays after the first k constraints of those that stand from q on in a file. Constraint t of the pair (i, j) has the blocks 2t + 1,
 -- from i towards j, and 2t + 2, from j towards i.
-use Rattle.std.specs.Prelude.{ℕ, zero, suc, ◌+◌, ◌*◌, ◌^◌, List, get_or, set, replicate}
+use Rattle.std.specs.Prelude.{ℕ, zero, suc, ◌+◌, ◌*◌, ◌^◌, ◌≡◌, ◌<◌, List, get_or, set, replicate}
 use Rattle.std.specs.Int.Bits.{bit_or}
 use Rattle.mask.specs.Mask.{bit, mask_of}
+use Rattle.solver_arrays.specs.declared.arrays.Arrays.{Arrays}
 use Rattle.file_constraints.specs.Constraints.{constraint_one, constraint_two, constraint_row}
 
 -- The values of i that go with value b of j, of constraint t.
 unfoldable pub column_of : List ℕ → ℕ → ℕ → ℕ → ℕ
 column_of f q t b = mask_of 16 (λ a. bit (constraint_row f q t a) b)
+
+-- What a closure returns at each of 16 places.
+abbrev pub Gives : (ℕ → ℕ → Type 0) → (ℕ → ℕ) → Type 0
+Gives post r = (a x : ℕ) → a < 16 → post a x → x ≡ r a
 
 -- l with g 0, .., g (k - 1) from base on.
 unfoldable pub put_to : List ℕ → ℕ → (ℕ → ℕ) → ℕ → List ℕ
@@ -56,3 +61,10 @@ index_start = replicate 1024 0
 
 unfoldable pub rows_start : List ℕ
 rows_start = replicate 15888 65535
+
+-- Arrays of the same variables.
+pub record SameVariables (A B : Arrays) : Type 0 where
+  pub own : B.own ≡ A.own
+  pub n : B.n ≡ A.n
+  pub universal : B.universal ≡ A.universal
+  pub domains : B.domains ≡ A.domains

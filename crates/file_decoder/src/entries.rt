@@ -2,83 +2,44 @@
 // and 2t + 2, from j towards i; block 0 serves every pair that no constraint joins.
 ghost use Rattle.std.specs.Prelude.{◌≡◌, ◌<◌};
 ghost use Rattle.file_constraints.specs.Constraints.{constraint_one, constraint_two, Whole, Constraints};
-ghost use Rattle.file_decoder.specs.Tables.{linked, numbered, near_with, index_with, rows_with, near_to, index_to, rows_to, near_start, index_start, rows_start};
+ghost use Rattle.file_decoder.specs.Tables.{near_with, index_with, rows_with, near_to, index_to, rows_to, SameVariables};
 
-use crate::rows::{put_columns, put_rows};
-use file_constraints::{constraint_one, constraint_two};
-use mask::single_32;
-use solver_arrays::{Index, Near, ROWS, Rows};
+use crate::rows::{column, put_block};
+use file_constraints::{constraint_one, constraint_row, constraint_two};
+use mask::single;
+use solver_arrays::Arrays;
 
-// i and j become neighbours.
-fn put_near(near: &mut Near, i: usize, j: usize)
-    requires { (i < 32) × (j < 32) }
-    ensures { near.new ≡ linked near.old i j }
-{
-    near[i] = near[i] | single_32(j);
-    near[j] = near[j] | single_32(i);
-}
-
-// The blocks of constraint t.
-fn put_index(index: &mut Index, i: usize, j: usize, t: usize)
-    requires { (i < 32) × (j < 32) × (t < 496) }
-    ensures { index.new ≡ numbered index.old i j t }
-{
-    index[32 * i + j] = (2 * t + 1) as u16;
-    index[32 * j + i] = (2 * t + 2) as u16;
-}
-
-// Constraint t.
-fn put_constraint(f: &[u8], q: usize, t: usize, near: &mut Near, index: &mut Index, rows: &mut Rows)
+// Constraint t: i and j become neighbours, and the pair has its two blocks.
+fn put_constraint(f: &[u8], q: usize, t: usize, arrays: &mut Arrays)
     requires { Whole f.now q t × (t < 496) × (constraint_one f.now q t < 32) × (constraint_two f.now q t < 32) }
-    ensures near_after { near.new ≡ near_with near.old f.now q t }
-    ensures index_after { index.new ≡ index_with index.old f.now q t }
-    ensures rows_after { rows.new ≡ rows_with rows.old f.now q t }
+    ensures near_after { arrays.new.near ≡ near_with arrays.old.near f.now q t }
+    ensures index_after { arrays.new.index ≡ index_with arrays.old.index f.now q t }
+    ensures rows_after { arrays.new.rows ≡ rows_with arrays.old.rows f.now q t }
+    ensures others { SameVariables arrays.old arrays.new }
 {
     let i = constraint_one(f, q, t);
     let j = constraint_two(f, q, t);
-    put_near(near, i, j);
-    put_index(index, i, j, t);
-    put_rows(f, q, t, rows, 32 * t + 16);
-    put_columns(f, q, t, rows, 32 * t + 32);
+    arrays.near[i] |= single::<u32>(j);
+    arrays.near[j] |= single::<u32>(i);
+    arrays.index[32 * i + j] = (2 * t + 1) as u16;
+    arrays.index[32 * j + i] = (2 * t + 2) as u16;
+    put_block(
+        &mut arrays.rows,
+        32 * t + 16,
+        |a| constraint_row(f, q, t, a),
+    );
+    put_block(&mut arrays.rows, 32 * t + 32, |b| column(f, q, t, b));
 }
 
 // The first m constraints.
-fn put_constraints(
-    f: &[u8],
-    q: usize,
-    m: usize,
-    near: &mut Near,
-    index: &mut Index,
-    rows: &mut Rows,
-)
+pub fn put_constraints(f: &[u8], q: usize, m: usize, arrays: &mut Arrays)
     requires { Constraints f.now q m }
-    ensures near_after { near.new ≡ near_to near.old f.now q m }
-    ensures index_after { index.new ≡ index_to index.old f.now q m }
-    ensures rows_after { rows.new ≡ rows_to rows.old f.now q m }
+    ensures near_after { arrays.new.near ≡ near_to arrays.old.near f.now q m }
+    ensures index_after { arrays.new.index ≡ index_to arrays.old.index f.now q m }
+    ensures rows_after { arrays.new.rows ≡ rows_to arrays.old.rows f.now q m }
+    ensures others { SameVariables arrays.old arrays.new }
 {
-    let mut t = 0;
-    while t < m {
-        put_constraint(f, q, t, near, index, rows);
-        t += 1;
+    for t in 0..m {
+        put_constraint(f, q, t, arrays);
     }
-}
-
-// Nothing entered yet.
-fn clear(near: &mut Near, index: &mut Index, rows: &mut Rows)
-    ensures { (near.new ≡ near_start) × (index.new ≡ index_start) × (rows.new ≡ rows_start) }
-{
-    *near = [0u32; 32];
-    *index = [0u16; 1024];
-    *rows = [65535u16; ROWS];
-}
-
-// The arrays of m constraints from q on.
-pub fn put_all(f: &[u8], q: usize, m: usize, near: &mut Near, index: &mut Index, rows: &mut Rows)
-    requires { Constraints f.now q m }
-    ensures near_after { near.new ≡ near_to near_start f.now q m }
-    ensures index_after { index.new ≡ index_to index_start f.now q m }
-    ensures rows_after { rows.new ≡ rows_to rows_start f.now q m }
-{
-    clear(near, index, rows);
-    put_constraints(f, q, m, near, index, rows);
 }

@@ -6,7 +6,7 @@ use mathlib.Core.List.{List}
 use lib.ListN.{length, get_or}
 use native.Mathlib.Omega.{arith}
 use borrow.Author.Tests.{leb-true, le-leb, eqb-true}
-use Rattle.refusal.specs.declared.Verdict.TheVariants.{Fine}
+use Rattle.refusal.specs.Chain.{Fine}
 use Rattle.refusal.proofs.Chain.{then_fine, need_fine, then_ok, need_ok, both_true}
 use Rattle.file_layout.specs.Layout.{marked, opened, n_of, m_of, has_rules, variables_at, constraints_at, after_constraints, end_at}
 use Rattle.file_layout.proofs.NumberLaws.{Counts, constraints_most}
@@ -29,13 +29,13 @@ pub opened_out : (f : List ℕ) (p : ℕ) (right : Bool) (k : ℕ) → opened f 
 unfolding opened
 opened_out f p right k q =
     let a = then_fine _ _ (then_fine _ _ q).1 in
-    (leb-true _ _ (need_fine _ _ _ a.1), need_fine _ _ _ a.0)
+    (leb-true _ _ (need_fine _ _ a.1), need_fine _ _ a.0)
 
 pub opened_in : (f : List ℕ) (p : ℕ) (right : Bool) (k : ℕ) → p + 2 + k ≤ length f → right ≡ true → opened f p right k ≡ Fine
 unfolding opened
 opened_in f p right k h r =
-    then_ok _ _ (need_ok _ _ _ (le-leb (p + 2) (length f) (omega arith)))
-    (then_ok _ _ (need_ok _ _ _ r) (need_ok _ _ _ (le-leb (p + 2 + k) (length f) h)))
+    then_ok _ _ (need_ok _ _ (le-leb (p + 2) (length f) (omega arith)))
+    (then_ok _ _ (need_ok _ _ r) (need_ok _ _ (le-leb (p + 2 + k) (length f) h)))
 
 -- Where the variables begin.
 pub start_most : (f : List ℕ) → variables_at f ≤ 8

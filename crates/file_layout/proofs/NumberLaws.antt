@@ -8,8 +8,8 @@ use lib.Dec.{T, ltb}
 use borrow.Author.Tests.{leb-true, ltb-true, le-leb, lt-ltb}
 use Rattle.mask.proofs.Logic.{holds, true_holds}
 use Rattle.mask.proofs.Range.{each_out, each_in, each_eq}
-use Rattle.refusal.specs.declared.Verdict.TheVariants.{Fine}
-use Rattle.refusal.specs.Chain.{◌then◌, need}
+use Rattle.refusal.specs.declared.reason.Reason.TheVariants.{Order, Stray}
+use Rattle.refusal.specs.Chain.{Fine, ◌then◌, need}
 use Rattle.refusal.proofs.Chain.{then_fine, then_same, need_fine, then_ok, need_ok, both_true, both_ok}
 use Rattle.file_layout.specs.Numbers.{counts_fit, in_order, pair_of, row_fits, rows_fit, constraint_fits}
 
@@ -52,35 +52,35 @@ pub record Fits (domain : ℕ → ℕ) (n last i j : ℕ) (row : ℕ → ℕ) : 
   pub above : last < pair_of i j
   pub rows : (a : ℕ) → a < 16 → T (row_fits (domain i) (domain j) a (row a))
 
-pub fits_out : (domain : ℕ → ℕ) (n last i j : ℕ) (row : ℕ → ℕ) (p : ℕ) → constraint_fits domain n last i j row p ≡ Fine → Fits domain n last i j row
+pub fits_out : (domain : ℕ → ℕ) (n last i j : ℕ) (row : ℕ → ℕ) → constraint_fits domain n last i j row ≡ Fine → Fits domain n last i j row
 unfolding constraint_fits rows_fit
-fits_out domain n last i j row p q =
+fits_out domain n last i j row q =
     let d = then_fine _ _ q in
-    let g = order_out _ _ _ (need_fine _ _ _ d.0) in
+    let g = order_out _ _ _ (need_fine _ _ d.0) in
     let h = then_fine _ _ d.1 in
     record {
       ascends = g.0;
       below = g.1;
-      above = ltb-true _ _ (need_fine _ _ _ h.0);
-      rows = λ a l. each_out 16 (λ a. true) (λ a. row_fits (domain i) (domain j) a (row a)) (true_holds (need_fine _ _ _ h.1)) a l tt;
+      above = ltb-true _ _ (need_fine _ _ h.0);
+      rows = λ a l. each_out 16 (λ a. true) (λ a. row_fits (domain i) (domain j) a (row a)) (true_holds (need_fine _ _ h.1)) a l tt;
     }
 
-pub fits_in_lem : (domain : ℕ → ℕ) (n last i j : ℕ) (row : ℕ → ℕ) (p : ℕ) → Fits domain n last i j row → constraint_fits domain n last i j row p ≡ Fine
+pub fits_in_lem : (domain : ℕ → ℕ) (n last i j : ℕ) (row : ℕ → ℕ) → Fits domain n last i j row → constraint_fits domain n last i j row ≡ Fine
 unfolding constraint_fits rows_fit
-fits_in_lem domain n last i j row p t =
-    then_ok _ _ (need_ok _ _ _ (order_in i j n t.ascends t.below))
-    (then_ok _ _ (need_ok _ _ _ (lt-ltb _ _ t.above))
-    (need_ok _ _ _ (holds (each_in 16 (λ a. true) (λ a. row_fits (domain i) (domain j) a (row a)) (λ a l s. t.rows a l)))))
+fits_in_lem domain n last i j row t =
+    then_ok _ _ (need_ok _ _ (order_in i j n t.ascends t.below))
+    (then_ok _ _ (need_ok _ _ (lt-ltb _ _ t.above))
+    (need_ok _ _ (holds (each_in 16 (λ a. true) (λ a. row_fits (domain i) (domain j) a (row a)) (λ a l s. t.rows a l)))))
 
 -- Only the domains of the n variables and the 16 rows count.
-pub fits_eq : (domain domain' : ℕ → ℕ) (n last i j : ℕ) (row row' : ℕ → ℕ) (p : ℕ) → ((k : ℕ) → k < n → domain k ≡ domain' k) → ((a : ℕ) → a < 16 → row a ≡ row' a) →
-    constraint_fits domain n last i j row p ≡ constraint_fits domain' n last i j row' p
+pub fits_eq : (domain domain' : ℕ → ℕ) (n last i j : ℕ) (row row' : ℕ → ℕ) → ((k : ℕ) → k < n → domain k ≡ domain' k) → ((a : ℕ) → a < 16 → row a ≡ row' a) →
+    constraint_fits domain n last i j row ≡ constraint_fits domain' n last i j row'
 unfolding constraint_fits rows_fit
-fits_eq domain domain' n last i j row row' p ed er =
+fits_eq domain domain' n last i j row row' ed er =
     then_same _ _ _
     (λ q.
-    let o = order_out i j n (need_fine _ _ _ q) in
+    let o = order_out i j n (need_fine _ _ q) in
     let x : domain i ≡ domain' i = ed i (omega (arith, o.0, o.1)) in
     let y : domain j ≡ domain' j = ed j o.1 in
     let z = each_eq 16 (λ a. true) (λ a. row_fits (domain i) (domain j) a (row a)) (λ a. row_fits (domain' i) (domain' j) a (row' a)) (λ a l. rw (x, y, er a l)) in
-    ap (λ (b : Bool). need (ltb last (pair_of i j)) 6 p then need b 7 p) z)
+    ap (λ (b : Bool). need (ltb last (pair_of i j)) Order then need b Stray) z)

@@ -1,10 +1,9 @@
 -- What stands where in a problem file. The layout is fixed, so every value is read by its place; a byte past the end is 0.
-use Rattle.std.specs.Prelude.{ℕ, ◌+◌, ◌*◌, Bool, cond, ◌&&◌, List, [], ◌∷◌, length, get_or, leb, eqb}
-use Rattle.refusal.specs.declared.Verdict.{Verdict}
-use Rattle.refusal.specs.Chain.{◌then◌, need}
+use Rattle.std.specs.Prelude.{ℕ, ◌+◌, ◌*◌, Bool, cond, ◌&&◌, List, [], ◌∷◌, length, get_or, leb, eqb, Option, Some, None}
+use Rattle.refusal.specs.declared.reason.Reason.TheVariants.{Short, Mark}
+use Rattle.refusal.specs.Reason.{◌at◌}
+use Rattle.refusal.specs.Chain.{Verdict, ◌then◌, need}
 use Rattle.file_layout.specs.Numbers.{pair_of}
-use Rattle.file_layout.specs.declared.Rules.{Rules}
-use Rattle.file_layout.specs.declared.Rules.TheVariants.{Absent, Given}
 
 abbrev pub byte : List ℕ → ℕ → ℕ
 byte f p = get_or f p 0
@@ -38,7 +37,7 @@ marked f p mark = leb (p + 2) (length f) && (eqb (get_or f p 0) (get_or mark 0 0
 
 -- How every record begins: two bytes for a mark (1), a mark that may stand here (2), and a whole body of k bytes (1).
 unfoldable pub opened : List ℕ → ℕ → Bool → ℕ → Verdict
-opened f p right k = need (leb (p + 2) (length f)) 1 p then need right 2 p then need (leb (p + 2 + k) (length f)) 1 p
+opened f p right k = need (leb (p + 2) (length f)) (Short at p) then need right (Mark at p) then need (leb (p + 2 + k) (length f)) (Short at p)
 
 -- `QP`: one byte n, two bytes m.
 abbrev pub n_of : List ℕ → ℕ
@@ -51,8 +50,8 @@ m_of f = word f 3
 abbrev pub has_rules : List ℕ → Bool
 has_rules f = marked f 5 RS
 
-unfoldable pub rules_of : List ℕ → Rules
-rules_of f = cond (has_rules f) (Given (byte f 7)) Absent
+unfoldable pub rules_of : List ℕ → Option ℕ
+rules_of f = cond (has_rules f) (Some (byte f 7)) None
 
 -- Where the variables begin.
 unfoldable pub variables_at : List ℕ → ℕ

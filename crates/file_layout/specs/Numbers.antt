@@ -1,9 +1,9 @@
 -- Tests on a problem's numbers, which the reader makes of a file and the writer of what it is handed.
-use Rattle.std.specs.Prelude.{ℕ, ◌+◌, ◌-◌, ◌*◌, ◌/◌, Bool, true, ◌&&◌, ltb, leb}
+use Rattle.std.specs.Prelude.{◌≡◌, ℕ, ◌<◌, ◌+◌, ◌-◌, ◌*◌, ◌/◌, Bool, true, ◌&&◌, ltb, leb}
 use Rattle.mask.specs.Range.{each}
 use Rattle.mask.specs.Mask.{bit}
-use Rattle.refusal.specs.declared.Verdict.{Verdict}
-use Rattle.refusal.specs.Chain.{◌then◌, need}
+use Rattle.refusal.specs.declared.reason.Reason.TheVariants.{Pair, Order, Stray}
+use Rattle.refusal.specs.Chain.{Test, ◌then◌, need}
 
 -- "n, choices, 1 to 32; m, tables, 0 to n·(n-1)/2."
 unfoldable pub counts_fit : ℕ → ℕ → Bool
@@ -25,9 +25,13 @@ row_fits di dj a row = each 16 (bit row) (λ b. bit di a && bit dj b)
 unfoldable pub rows_fit : ℕ → ℕ → (ℕ → ℕ) → ℕ → Bool
 rows_fit di dj row k = each k (λ a. true) (λ a. row_fits di dj a (row a))
 
--- One constraint's numbers at the place p, among n variables with these domains, behind a constraint of the pair last (0 if there is none).
-unfoldable pub constraint_fits : (ℕ → ℕ) → ℕ → ℕ → ℕ → ℕ → (ℕ → ℕ) → ℕ → Verdict
-constraint_fits domain n last i j row p =
-    need (in_order i j n) 5 p
-    then need (ltb last (pair_of i j)) 6 p
-    then need (rows_fit (domain i) (domain j) row 16) 7 p
+-- One constraint's numbers, among n variables with these domains, behind a constraint of the pair last (0 if there is none).
+unfoldable pub constraint_fits : (ℕ → ℕ) → ℕ → ℕ → ℕ → ℕ → (ℕ → ℕ) → Test
+constraint_fits domain n last i j row =
+    need (in_order i j n) Pair
+    then need (ltb last (pair_of i j)) Order
+    then need (rows_fit (domain i) (domain j) row 16) Stray
+
+-- What is read of a number below n is g of it.
+abbrev pub Gives : (ℕ → ℕ → Type 0) → ℕ → (ℕ → ℕ) → Type 0
+Gives read n g = (k x : ℕ) → k < n → read k x → x ≡ g k

@@ -7,12 +7,5 @@ mod numbers;
 mod places;
 
 pub use bytes::{byte_at, is_marked, opened_at, word_at};
-pub use numbers::{counts_fit, in_order, row_fits};
+pub use numbers::{constraint_fits, counts_fit, in_order, pair_of};
 pub use places::{domain_at, pair_at, rules_at, variables_at};
-
-// A rule set's number, or none.
-#[derive(Clone, Copy)]
-pub enum Rules {
-    Absent,
-    Given(u8),
-}

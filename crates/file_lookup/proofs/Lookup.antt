@@ -10,17 +10,17 @@ use lib.Dec.{eqb}
 use native.Mathlib.Omega.{arith}
 use native.Mathlib.Nat.{eq-or-lt_of_le, le_of_suc-le-suc}
 use borrow.Author.Tests.{eqb-true, eqb-false, eq-eqb, ne_eqb, le-leb, lt-leb}
-use Rattle.refusal.specs.declared.Verdict.{Verdict}
-use Rattle.refusal.specs.declared.Verdict.TheVariants.{Fine}
-use Rattle.refusal.specs.declared.Verdict.TheVariants.{Refused as Not}
-use Rattle.refusal.specs.Told.{Told, replied, refused, refused_at}
+use Rattle.std.specs.Prelude.{Result, Ok, Err, Option, None, Some}
+use Rattle.refusal.specs.declared.reason.Fault.{Fault}
+use Rattle.refusal.specs.declared.reason.Refusal.{Refusal}
+use Rattle.refusal.specs.declared.reason.Refusal.TheVariants.{InFile, InCall}
+use Rattle.refusal.specs.Chain.{Verdict, Fine}
+use Rattle.refusal.specs.Told.{Told, replied, refused, fault_told}
 use Rattle.file_layout.specs.Layout.{n_of, m_of, one_at, two_at, pair_at, constraints_at}
 use Rattle.file_layout.specs.Numbers.{in_order, pair_of}
 use Rattle.file_layout.proofs.NumberLaws.{order_out, order_in}
 use Rattle.file_records.specs.Records.{last_pair, verdict_of}
 use Rattle.file_reader.proofs.Accepted.{accepted}
-use Rattle.file_lookup.specs.declared.Found.{Found}
-use Rattle.file_lookup.specs.declared.Found.TheVariants.{Rows, Free, Refused, RefusedAt}
 use Rattle.file_lookup.specs.Lookup.{told, place_to, pair_place, look_for, look_up, rows_at, rows_of}
 
 -- ---- among the first k constraints from q
@@ -31,7 +31,7 @@ chosen_at true x p r e = inl (refl, cc)
 chosen_at false x p r e = inr e
 
 chosen_none : (b : Bool) (x : ℕ) (r : Told) → cond b (replied (x ∷ [])) r ≡ replied [] → (b ≡ false) × (r ≡ replied [])
-chosen_none true x r e = let z : ◌≡◌ {A = ℕ} 0 1 = cc in absurd (omega arith)
+chosen_none true x r e = absurd (cc)
 chosen_none false x r e = (refl, e)
 
 -- Constraint t of the first k from q has the pair number c, and its rows stand at p.
@@ -43,7 +43,7 @@ pub record Stands (f : List ℕ) (q c k p : ℕ) : Type 0 where
 
 place_at : (f : List ℕ) (q c k p : ℕ) → place_to f q c k ≡ replied (p ∷ []) → Stands f q c k p
 unfolding place_to
-place_at f q c zero p e = let z : ◌≡◌ {A = ℕ} 0 1 = cc in absurd (omega arith)
+place_at f q c zero p e = absurd (cc)
 place_at f q c (suc k) p e =
     ⊎_elim
     (λ (h : (eqb (pair_at f (q + 36 * k)) c ≡ true) × (q + 36 * k + 4 ≡ p)).
@@ -62,6 +62,18 @@ place_none f q c (suc k) e t h g =
     (λ (i : t ≡ k). eqb-false _ _ a.0 (ap (λ (x : ℕ). pair_at f (q + 36 * x)) (sym i) ∙ g))
     (λ (l : t < k). place_none f q c k a.1 t l g)
     (eq-or-lt_of_le (le_of_suc-le-suc h))
+
+-- The last of the first k has the pair number c, or has not.
+module _ (f : List ℕ) (q c : ℕ) where
+  pub place_last : (k : ℕ) → 0 < k → pair_at f (q + 36 * (k - 1)) ≡ c → place_to f q c k ≡ replied ((q + 36 * (k - 1) + 4) ∷ [])
+  unfolding place_to
+  place_last zero h e = absurd (omega arith)
+  place_last (suc k) h e = let z : suc k - 1 ≡ k = omega arith in let g : pair_at f (q + 36 * k) ≡ c = rw z at e in rw (z, eq-eqb _ _ g)
+
+  pub place_before : (k : ℕ) → 0 < k → ¬ (pair_at f (q + 36 * (k - 1)) ≡ c) → place_to f q c (k - 1) ≡ place_to f q c k
+  unfolding place_to
+  place_before zero h e = absurd (omega arith)
+  place_before (suc k) h e = let z : suc k - 1 ≡ k = omega arith in let g : ¬ (pair_at f (q + 36 * k) ≡ c) = rw z at e in rw (z, ne_eqb _ _ g)
 
 module _ (f : List ℕ) (q m : ℕ) (above : (u : ℕ) → u < m → last_pair f q u < pair_at f (q + 36 * u)) where
   ascends : (t u : ℕ) → t < u → u < m → pair_at f (q + 36 * t) < pair_at f (q + 36 * u)
@@ -94,9 +106,9 @@ pub look_fine : (f : List ℕ) → verdict_of f ≡ Fine → (i j : ℕ) → loo
 unfolding look_for
 look_fine f q i j = look_is f Fine q i j
 
-pub look-refused : (f : List ℕ) (e p : ℕ) → verdict_of f ≡ Not e p → (i j : ℕ) → look_up f i j ≡ refused_at e p
+pub look-refused : (f : List ℕ) (e : Fault) → verdict_of f ≡ Err e → (i j : ℕ) → look_up f i j ≡ fault_told e
 unfolding look_for
-look-refused f e p q i j = look_is f (Not e p) q i j
+look-refused f e q i j = look_is f (Err e) q i j
 
 pub place_so : (f : List ℕ) (i j : ℕ) → in_order i j (n_of f) ≡ true → pair_place f i j ≡ place_to f (constraints_at f) (pair_of i j) (m_of f)
 unfolding pair_place
@@ -113,7 +125,7 @@ look_find f i j q h l = look_fine f q i j ∙ place_so f i j (order_in i j (n_of
 -- A choice between an answer r and a refusal by number that is a reply is r.
 replies : (b : Bool) (r : Told) (e : ℕ) (ps : List ℕ) → cond b r (refused e) ≡ replied ps → (b ≡ true) × (r ≡ replied ps)
 replies true r e ps q = (refl, q)
-replies false r e ps q = let z : ◌≡◌ {A = ℕ} 0 1 = cc in absurd (omega arith)
+replies false r e ps q = absurd (cc)
 
 place_replies : (f : List ℕ) (i j : ℕ) (ps : List ℕ) → pair_place f i j ≡ replied ps →
     (in_order i j (n_of f) ≡ true) × (place_to f (constraints_at f) (pair_of i j) (m_of f) ≡ replied ps)
@@ -122,8 +134,8 @@ place_replies f i j ps e = replies _ _ _ _ e
 
 look_replies : (v : Verdict) (f : List ℕ) (i j : ℕ) (ps : List ℕ) → look_for v f i j ≡ replied ps → (v ≡ Fine) × (pair_place f i j ≡ replied ps)
 unfolding look_for
-look_replies Fine f i j ps e = (refl, e)
-look_replies (Not k w) f i j ps e = let z : ◌≡◌ {A = ℕ} 0 1 = cc in absurd (omega arith)
+look_replies (Ok u) f i j ps e = (refl, e)
+look_replies (Err d) f i j ps e = absurd (cc)
 
 -- What is found at p: the file is accepted, the pair is in order, and a constraint of the pair stands at p - 4.
 pub record FoundAt (f : List ℕ) (i j p : ℕ) : Type 0 where
@@ -180,18 +192,17 @@ pub rows_there : (f : List ℕ) (p : ℕ) → p + 32 ≤ length f → take (p + 
 unfolding rows_at
 rows_there f p h = let e : p + 32 - p ≡ 32 = omega arith in rw (e, le-leb _ _ h)
 
-pub rows_of_lem : (r : Found) (f : List ℕ) (p : ℕ) → r ≡ Rows p → rows_of r f ≡ rows_at f p
+pub rows_of_lem : (r : Result (Option ℕ) Refusal) (f : List ℕ) (p : ℕ) → r ≡ Ok (Some p) → rows_of r f ≡ rows_at f p
 unfolding rows_of
 rows_of_lem r f p q = rw q
 
-told_rows : (r : Found) (p : ℕ) → told r ≡ replied (p ∷ []) → r ≡ Rows p
-unfolding told
-told_rows (Rows w) p e = let z : w ≡ p = cc in rw z
-told_rows Free p e = let z : ◌≡◌ {A = ℕ} 0 1 = cc in absurd (omega arith)
-told_rows (Refused k) p e = let z : ◌≡◌ {A = ℕ} 0 1 = cc in absurd (omega arith)
-told_rows (RefusedAt k w) p e = let z : ◌≡◌ {A = ℕ} 0 1 = cc in absurd (omega arith)
+told_rows : (r : Result (Option ℕ) Refusal) (p : ℕ) → told r ≡ replied (p ∷ []) → r ≡ Ok (Some p)
+told_rows (Ok (Some w)) p e = cc
+told_rows (Ok None) p e = cc
+told_rows (Err (InFile d)) p e = cc
+told_rows (Err (InCall d)) p e = cc
 
 -- An answer of the look-up that has rows shows the 32 bytes at their place.
-pub found_rows : (f : List ℕ) (i j p : ℕ) (r : Found) → told r ≡ look_up f i j → look_up f i j ≡ replied (p ∷ []) → rows_of r f ≡ take 32 (drop p f)
+pub found_rows : (f : List ℕ) (i j p : ℕ) (r : Result (Option ℕ) Refusal) → told r ≡ look_up f i j → look_up f i j ≡ replied (p ∷ []) → rows_of r f ≡ take 32 (drop p f)
 unfolding rows_at
 found_rows f i j p r e q = rows_of_lem r f p (told_rows r p (e ∙ q)) ∙ rw (le-leb _ _ (found_within f i j p q))

@@ -10,7 +10,7 @@ use native.Mathlib.Omega.{arith}
 use native.Mathlib.Nat.{eq-or-lt_of_le, le_of_suc-le-suc}
 use lib.Dec.{ltb}
 use borrow.Author.Tests.{le-leb, ltb-true, ltb-false}
-use Rattle.refusal.specs.declared.Verdict.TheVariants.{Fine}
+use Rattle.refusal.specs.Chain.{Fine}
 use Rattle.refusal.specs.Told.{Told, replied, refused, refused_at}
 use Rattle.file_layout.specs.Layout.{word, m_of, one_at, two_at, row_at, pair_at, constraints_at}
 use Rattle.file_layout.specs.Numbers.{pair_of}

@@ -1,21 +1,15 @@
 -- What a look-up of a pair tells and shows. A file's refusal comes first, with its place; then 11 for a pair that is not i < j < n.
-use Rattle.std.specs.Prelude.{ℕ, zero, suc, ◌+◌, ◌*◌, ◌/◌, ◌%◌, cond, List, [], ◌∷◌, ◌++◌, length, take, drop, leb, eqb}
-use Rattle.refusal.specs.declared.Verdict.{Verdict}
-use Rattle.refusal.specs.declared.Verdict.TheVariants.{Fine}
-use Rattle.refusal.specs.declared.Verdict.TheVariants.{Refused as Not}
-use Rattle.refusal.specs.Told.{Told, replied, refused, refused_at}
+use Rattle.std.specs.Prelude.{ℕ, zero, suc, ◌+◌, ◌*◌, ◌/◌, ◌%◌, cond, List, [], ◌∷◌, ◌++◌, length, take, drop, leb, eqb, Result, Ok, Err, Option, None, Some}
+use Rattle.refusal.specs.declared.reason.Refusal.{Refusal}
+use Rattle.refusal.specs.Chain.{Verdict}
+use Rattle.refusal.specs.Told.{Told, replied, refused, refused_at, fault_told, refusal_told, told_by, listed}
 use Rattle.file_layout.specs.Layout.{word, n_of, m_of, one_at, two_at, row_at, pair_at, constraints_at}
 use Rattle.file_layout.specs.Numbers.{in_order, pair_of}
 use Rattle.file_records.specs.Records.{verdict_of}
-use Rattle.file_lookup.specs.declared.Found.{Found}
-use Rattle.file_lookup.specs.declared.Found.TheVariants.{Rows, Free, Refused, RefusedAt}
 
 -- Each case of the answer in document 01's numbers.
-unfoldable pub told : Found → Told
-told (Rows p) = replied (p ∷ [])
-told Free = replied []
-told (Refused e) = refused e
-told (RefusedAt e p) = refused_at e p
+abbrev pub told : Result (Option ℕ) Refusal → Told
+told = told_by listed refusal_told
 
 -- Where the rows of the pair with the number c stand, among the first k constraints from q: behind "the four-byte table head".
 unfoldable pub place_to : List ℕ → ℕ → ℕ → ℕ → Told
@@ -27,8 +21,8 @@ unfoldable pub pair_place : List ℕ → ℕ → ℕ → Told
 pair_place f i j = cond (in_order i j (n_of f)) (place_to f (constraints_at f) (pair_of i j) (m_of f)) (refused 11)
 
 unfoldable pub look_for : Verdict → List ℕ → ℕ → ℕ → Told
-look_for Fine f i j = pair_place f i j
-look_for (Not e p) f i j = refused_at e p
+look_for (Ok u) f i j = pair_place f i j
+look_for (Err e) f i j = fault_told e
 
 unfoldable pub look_up : List ℕ → ℕ → ℕ → Told
 look_up f i j = look_for (verdict_of f) f i j
@@ -38,11 +32,10 @@ unfoldable pub rows_at : List ℕ → ℕ → List ℕ
 rows_at f p = cond (leb (p + 32) (length f)) (take 32 (drop p f)) []
 
 -- The part of the file that an answer shows.
-unfoldable pub rows_of : Found → List ℕ → List ℕ
-rows_of (Rows p) f = rows_at f p
-rows_of Free f = []
-rows_of (Refused e) f = []
-rows_of (RefusedAt e p) f = []
+unfoldable pub rows_of : Result (Option ℕ) Refusal → List ℕ → List ℕ
+rows_of (Ok (Some p)) f = rows_at f p
+rows_of (Ok None) f = []
+rows_of (Err e) f = []
 
 -- The first k rows as numbers, of their bytes.
 unfoldable pub words_to : List ℕ → ℕ → List ℕ

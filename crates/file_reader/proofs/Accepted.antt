@@ -11,19 +11,17 @@ use native.Mathlib.Omega.{arith}
 use native.Mathlib.Nat.{eq-or-lt_of_le, le_of_suc-le-suc}
 use Rattle.mask.specs.Mask.{bit}
 use Rattle.mask.proofs.Masks.{bit-mask_of}
-use Rattle.refusal.specs.declared.Verdict.{Verdict}
-use Rattle.refusal.specs.declared.Verdict.TheVariants.{Fine}
-use Rattle.refusal.specs.declared.Verdict.TheVariants.{Refused as Not}
-use Rattle.refusal.specs.Told.{replied, refused_at}
+use Rattle.std.specs.Prelude.{Ok, Err, Option, None, Some}
+use Rattle.refusal.specs.declared.reason.Fault.{Fault}
+use Rattle.refusal.specs.Chain.{Verdict, Fine}
+use Rattle.refusal.specs.Told.{replied, fault_told}
 use Rattle.refusal.proofs.Chain.{then_fine, then_ok}
+use Rattle.refusal.proofs.Numbers.{fault_one}
 use Rattle.rule_set.specs.RuleSet.{is_rule_set}
-use Rattle.file_layout.specs.declared.Rules.{Rules}
-use Rattle.file_layout.specs.declared.Rules.TheVariants.{Absent, Given}
 use Rattle.file_reader.specs.declared.Head.{Head}
-use Rattle.file_reader.specs.declared.Header.TheVariants.{Accepted as Shown, Refused}
 use Rattle.file_layout.specs.Layout.{byte, word, marked, EN, n_of, m_of, has_rules, rules_of, variables_at, domain_at, universal_at, constraints_at, end_at}
 use Rattle.file_records.specs.Records.{last_pair, rest_test, verdict_of}
-use Rattle.file_reader.specs.Reading.{rule_numbers, header_numbers, told, domain_of, universal_of, universal_bits, universal_bits_of, domains_to, head_of, header_for, domains_for, header_of, domains_of}
+use Rattle.file_reader.specs.Reading.{rule_numbers, header_numbers, domain_of, universal_of, universal_bits, universal_bits_of, domains_to, head_of, header_for, domains_for, header_of, domains_of}
 use Rattle.file_layout.proofs.LayoutLaws.{end_is}
 use Rattle.file_records.proofs.RecordLaws.{HeadRecord, Variable, Constraint, qp_out, qp_in, rs_out, rs_in, variables_out, variables_in_lem, constraints_out, constraints_in_lem, en_out, en_in}
 
@@ -82,12 +80,11 @@ pub domains_is : (f : List ℕ) (v : Verdict) → verdict_of f ≡ v → domains
 unfolding domains_of
 domains_is f v q = rw q
 
-rules_same : (r s : Rules) → rule_numbers r ≡ rule_numbers s → r ≡ s
-unfolding rule_numbers
-rules_same Absent Absent e = refl
-rules_same Absent (Given k) e = let z : ◌≡◌ {A = ℕ} 0 1 = cc in absurd (omega arith)
-rules_same (Given k) Absent e = let z : ◌≡◌ {A = ℕ} 0 1 = cc in absurd (omega arith)
-rules_same (Given k) (Given j) e = let z : k ≡ j = cc in rw z
+rules_same : (r s : Option ℕ) → rule_numbers r ≡ rule_numbers s → r ≡ s
+rules_same None None e = refl
+rules_same None (Some k) e = cc
+rules_same (Some k) None e = cc
+rules_same (Some k) (Some j) e = cc
 
 -- A header that is accepted shows the file's numbers; one that is refused, its verdict.
 pub record Shows (f : List ℕ) (h : Head) : Type 0 where
@@ -97,31 +94,31 @@ pub record Shows (f : List ℕ) (h : Head) : Type 0 where
   pub set : h.rules ≡ rules_of f
   pub bits : h.universal ≡ universal_bits_of f
 
-pub header_shows : (f : List ℕ) (h : Head) → told (Shown h) ≡ header_of f → Shows f h
-unfolding told header_for header_numbers head_of
+pub header_shows : (f : List ℕ) (h : Head) → replied (header_numbers h) ≡ header_of f → Shows f h
+unfolding header_for header_numbers head_of
 header_shows f h e = go (verdict_of f) refl (e ∙ header_is f (verdict_of f) refl)
   where
     go : (v : Verdict) → verdict_of f ≡ v → replied (header_numbers h) ≡ header_for v f → Shows f h
-    go Fine q e = record {
+    go (Ok u) q e = record {
       fine = q;
       variables = cc;
       constraints = cc;
       set = rules_same _ _ (cc);
       bits = cc;
     }
-    go (Not k p) q e = let z : ◌≡◌ {A = ℕ} 0 1 = cc in absurd (omega arith)
+    go (Err d) q e = cc
 
 pub head_is : (f : List ℕ) (h : Head) → Shows f h → h ≡ head_of f
 unfolding head_of
 head_is f h s = rw (← s.bits, ← s.set, ← s.constraints, ← s.variables)
 
-pub header_refuses : (f : List ℕ) (k p : ℕ) → told (Refused k p) ≡ header_of f → verdict_of f ≡ Not k p
-unfolding told header_for
-header_refuses f k p e = go (verdict_of f) refl (e ∙ header_is f (verdict_of f) refl)
+pub header_refuses : (f : List ℕ) (e : Fault) → fault_told e ≡ header_of f → verdict_of f ≡ Err e
+unfolding header_for
+header_refuses f e h = go (verdict_of f) refl (h ∙ header_is f (verdict_of f) refl)
   where
-    go : (v : Verdict) → verdict_of f ≡ v → refused_at k p ≡ header_for v f → verdict_of f ≡ Not k p
-    go Fine q e = let z : ◌≡◌ {A = ℕ} 0 1 = cc in absurd (omega arith)
-    go (Not d w) q e = q ∙ cc
+    go : (v : Verdict) → verdict_of f ≡ v → fault_told e ≡ header_for v f → verdict_of f ≡ Err e
+    go (Ok u) q h = cc
+    go (Err d) q h = q ∙ ap Err (fault_one d e (sym h))
 
 -- The domains of the reply.
 pub length-domains : (f : List ℕ) (b k : ℕ) → length (domains_to f b k) ≡ 32

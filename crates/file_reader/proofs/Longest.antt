@@ -6,10 +6,10 @@ use lib.ListN.{length, take, replicate}
 use lib.Seq.{take_all}
 use native.Mathlib.Nat.{le_refl}
 use native.Mathlib.Omega.{arith}
-use Rattle.refusal.specs.declared.Verdict.{Verdict}
-use Rattle.refusal.specs.declared.Verdict.TheVariants.{Fine}
-use Rattle.refusal.specs.declared.Verdict.TheVariants.{Refused as Not}
-use Rattle.refusal.specs.Told.{refused_at}
+use Rattle.std.specs.Prelude.{Ok, Err}
+use Rattle.refusal.specs.declared.reason.Fault.{Fault}
+use Rattle.refusal.specs.Chain.{Verdict, Fine}
+use Rattle.refusal.specs.Told.{fault_told}
 use Rattle.file_layout.proofs.LayoutLaws.{end_most}
 use Rattle.file_layout.proofs.FrontLaws.{take_front}
 use Rattle.file_records.specs.Records.{verdict_of}
@@ -31,19 +31,19 @@ long_tail f = verdict_front 17995 (take 17995 f) f (take_front 17995 f) (le_refl
 pub front_whole : (f : List ℕ) → verdict_of f ≡ Fine → take 17995 f ≡ f
 front_whole f q = take_all 17995 f (omega (arith, longest f q))
 
--- So every reply that is number and place alone of a refused file is that of the first 17,995 bytes: the reader's header, and its domains.
-pub reply_tail : {A : Type 0} (reply : List ℕ → A) (refusal : ℕ → ℕ → A) → ((f : List ℕ) (e p : ℕ) → verdict_of f ≡ Not e p → reply f ≡ refusal e p) →
+-- So every reply that is the refusal alone of a refused file is that of the first 17,995 bytes: the reader's header, and its domains.
+pub reply_tail : {A : Type 0} (reply : List ℕ → A) (refusal : Fault → A) → ((f : List ℕ) (e : Fault) → verdict_of f ≡ Err e → reply f ≡ refusal e) →
     (f : List ℕ) → reply (take 17995 f) ≡ reply f
 reply_tail {A} reply refusal refuses f = go (verdict_of f) refl
   where
     go : (v : Verdict) → verdict_of f ≡ v → reply (take 17995 f) ≡ reply f
-    go Fine q = ap reply (front_whole f q)
-    go (Not e p) q = refuses (take 17995 f) e p (long_tail f ∙ q) ∙ sym (refuses f e p q)
+    go (Ok u) q = ap reply (front_whole f q)
+    go (Err e) q = refuses (take 17995 f) e (long_tail f ∙ q) ∙ sym (refuses f e q)
 
 pub header_tail : (f : List ℕ) → header_of (take 17995 f) ≡ header_of f
 unfolding header_for
-header_tail = reply_tail header_of refused_at (λ f e p q. header_is f (Not e p) q)
+header_tail = reply_tail header_of fault_told (λ f e q. header_is f (Err e) q)
 
 pub domains_tail : (f : List ℕ) → domains_of (take 17995 f) ≡ domains_of f
 unfolding domains_for
-domains_tail = reply_tail domains_of (λ e p. replicate 32 0) (λ f e p q. domains_is f (Not e p) q)
+domains_tail = reply_tail domains_of (λ e. replicate 32 0) (λ f e q. domains_is f (Err e) q)

@@ -1,33 +1,31 @@
 -- What reading tells: of an accepted file n, m, the rule set or none, the universal bits and the domains; else the number and the
 -- place, "Nothing else is returned". The crates above name a file's numbers and its verdict by what this module passes on.
-use Rattle.std.specs.Prelude.{ℕ, zero, suc, min, Bool, List, [], ◌∷◌, set, replicate}
+use Rattle.std.specs.Prelude.{ℕ, zero, suc, min, Bool, List, ◌∷◌, set, replicate, Result, Ok, Err, Option}
 use Rattle.mask.specs.Mask.{mask_of}
-use Rattle.refusal.specs.declared.Verdict.{Verdict}
-use Rattle.refusal.specs.declared.Verdict.TheVariants.{Fine}
-use Rattle.refusal.specs.declared.Verdict.TheVariants.{Refused as Not}
-use Rattle.refusal.specs.Told.{Told, replied, refused_at}
-use Rattle.file_layout.specs.declared.Rules.{Rules}
-use Rattle.file_layout.specs.declared.Rules.TheVariants.{Absent, Given}
+use Rattle.refusal.specs.declared.reason.Fault.{Fault}
+use Rattle.refusal.specs.Chain.{Verdict}
+use Rattle.refusal.specs.Told.{Told, replied, fault_told, told_by, listed}
 use Rattle.file_reader.specs.declared.Head.{Head}
-use Rattle.file_reader.specs.declared.Header.{Header}
-use Rattle.file_reader.specs.declared.Header.TheVariants.{Accepted, Refused}
+use Rattle.file_reader.specs.declared.Reading.{Reading}
 use Rattle.file_layout.specs.Layout.{rules_of, variables_at, domain_at, universal_at}
 pub use Rattle.file_layout.specs.Layout.{n_of, m_of}
 pub use Rattle.file_records.specs.Records.{verdict_of}
 
 -- The rule set's number, if there is one.
-unfoldable pub rule_numbers : Rules → List ℕ
-rule_numbers Absent = []
-rule_numbers (Given k) = k ∷ []
+abbrev pub rule_numbers : Option ℕ → List ℕ
+rule_numbers = listed
 
 -- The numbers of a header.
 unfoldable pub header_numbers : Head → List ℕ
 header_numbers h = h.n ∷ h.m ∷ h.universal ∷ rule_numbers h.rules
 
--- Each case of the answer in document 01's numbers.
-unfoldable pub told : Header → Told
-told (Accepted h) = replied (header_numbers h)
-told (Refused e p) = refused_at e p
+-- Each case of the answer in document 01's numbers, and the domains that it shows.
+abbrev pub told : Result Reading Fault → Told
+told = told_by (λ (r : Reading). header_numbers r.head) fault_told
+
+abbrev pub domains_shown : Result Reading Fault → List ℕ
+domains_shown (Ok r) = r.domains
+domains_shown (Err e) = replicate 32 0
 
 -- "two bytes, a mask of options": a number of 16 bits. The bound cuts nothing in a slice, whose elements are bytes (`domain_read` in
 -- `proofs/Accepted.antt`), and it keeps a domain that is not zero.
@@ -55,12 +53,12 @@ unfoldable pub head_of : List ℕ → Head
 head_of f = record { n = n_of f; m = m_of f; rules = rules_of f; universal = universal_bits_of f }
 
 unfoldable pub header_for : Verdict → List ℕ → Told
-header_for Fine f = replied (header_numbers (head_of f))
-header_for (Not e p) f = refused_at e p
+header_for (Ok u) f = replied (header_numbers (head_of f))
+header_for (Err e) f = fault_told e
 
 unfoldable pub domains_for : Verdict → List ℕ → List ℕ
-domains_for Fine f = domains_to f (variables_at f) (n_of f)
-domains_for (Not e p) f = replicate 32 0
+domains_for (Ok u) f = domains_to f (variables_at f) (n_of f)
+domains_for (Err e) f = replicate 32 0
 
 -- What the header tells, and the domains.
 unfoldable pub header_of : List ℕ → Told

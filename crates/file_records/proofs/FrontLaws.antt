@@ -5,8 +5,9 @@ use mathlib.Core.Bool.{Bool, ◌||◌, not}
 use mathlib.Core.List.{List}
 use lib.Dec.{eqb}
 use native.Mathlib.Omega.{arith}
-use Rattle.refusal.specs.declared.Verdict.{Verdict}
-use Rattle.refusal.specs.Chain.{◌then◌, need, only}
+use Rattle.refusal.specs.declared.reason.Reason.TheVariants.{Count, Domain, Rules, Tail}
+use Rattle.refusal.specs.Reason.{◌at◌}
+use Rattle.refusal.specs.Chain.{Verdict, ◌then◌, need, only, placed}
 use Rattle.refusal.proofs.Chain.{then_same}
 use Rattle.rule_set.specs.RuleSet.{is_rule_set}
 use Rattle.file_layout.specs.Layout.{QP, RS, VE, VA, CT, EN, n_of, m_of, variables_at, domain_at, one_at, two_at, row_at, constraints_at, end_at}
@@ -22,20 +23,20 @@ module _ (k : ℕ) (f g : List ℕ) (s : SameFront k f g) where
   unfolding qp_test
   qp_front h =
       ap₂ ◌then◌ (opened_front k f g s 0 _ _ 3 h (marked_front k f g s 0 QP (omega arith)))
-      (ap₂ (λ (n m : ℕ). need (counts_fit n m) 3 0) (s.bytes 2 (omega arith)) (word_front k f g s 3 h))
+      (ap₂ (λ (n m : ℕ). need (counts_fit n m) (Count at 0)) (s.bytes 2 (omega arith)) (word_front k f g s 3 h))
 
   rs_front : 8 ≤ k → rs_test f ≡ rs_test g
   unfolding rs_test
   rs_front h =
       ap₂ only (marked_front k f g s 5 RS (omega arith))
-      (ap₂ ◌then◌ (opened_front k f g s 5 _ _ 1 h refl) (ap (λ (r : ℕ). need (is_rule_set r) 8 5) (s.bytes 7 h)))
+      (ap₂ ◌then◌ (opened_front k f g s 5 _ _ 1 h refl) (ap (λ (r : ℕ). need (is_rule_set r) (Rules at 5)) (s.bytes 7 h)))
 
   variable_front : (p : ℕ) → p + 4 ≤ k → variable_test f p ≡ variable_test g p
   unfolding variable_test
   variable_front p h =
       ap₂ ◌then◌
       (opened_front k f g s p _ _ 2 (omega arith) (ap₂ ◌||◌ (marked_front k f g s p VE (omega arith)) (marked_front k f g s p VA (omega arith))))
-      (ap (λ (d : ℕ). need (not (eqb d 0)) 4 p) (word_front k f g s (p + 2) (omega arith)))
+      (ap (λ (d : ℕ). need (not (eqb d 0)) (Domain at p)) (word_front k f g s (p + 2) (omega arith)))
 
   variables_front : (b n : ℕ) → b + 4 * n ≤ k → variables_test f b n ≡ variables_test g b n
   unfolding variables_test
@@ -46,9 +47,10 @@ module _ (k : ℕ) (f g : List ℕ) (s : SameFront k f g) where
   unfolding constraint_test
   constraint_front b n last p h l =
       ap₂ ◌then◌ (opened_front k f g s p _ _ 34 (omega arith) (marked_front k f g s p CT (omega arith)))
-      (ap₂ (λ (i j : ℕ). constraint_fits (domain_at f b) n last i j (row_at f p) p) (s.bytes (p + 2) (omega arith)) (s.bytes (p + 3) (omega arith))
-      ∙ fits_eq (domain_at f b) (domain_at g b) n last (one_at g p) (two_at g p) (row_at f p) (row_at g p) p
-      (λ i r. domain_front k f g s b i (omega arith)) (λ a r. row_front k f g s p a (omega arith)))
+      (ap (placed p)
+      (ap₂ (λ (i j : ℕ). constraint_fits (domain_at f b) n last i j (row_at f p)) (s.bytes (p + 2) (omega arith)) (s.bytes (p + 3) (omega arith))
+      ∙ fits_eq (domain_at f b) (domain_at g b) n last (one_at g p) (two_at g p) (row_at f p) (row_at g p)
+      (λ i r. domain_front k f g s b i (omega arith)) (λ a r. row_front k f g s p a (omega arith))))
 
   last_front : (q t : ℕ) → q + 36 * t ≤ k → last_pair f q t ≡ last_pair g q t
   unfolding last_pair
@@ -66,7 +68,7 @@ module _ (k : ℕ) (f g : List ℕ) (s : SameFront k f g) where
   unfolding en_test
   en_front p h =
       ap₂ ◌then◌ (opened_front k f g s p _ _ 0 (omega arith) (marked_front k f g s p EN (omega arith)))
-      (ap (λ (b : Bool). need b 9 (p + 2)) (end_front k f g s (p + 2) h))
+      (ap (λ (b : Bool). need b (Tail at (p + 2))) (end_front k f g s (p + 2) h))
 
   -- Variables and constraints of the front's own numbers.
   own_variables_front : 7 ≤ k → variables_at g + 4 * n_of g ≤ k → variables_test f (variables_at f) (n_of f) ≡ variables_test g (variables_at g) (n_of g)

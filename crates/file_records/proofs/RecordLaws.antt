@@ -8,14 +8,12 @@ use lib.ListN.{length}
 use native.Mathlib.Omega.{arith}
 use native.Mathlib.Nat.{eq-or-lt_of_le, le_of_suc-le-suc}
 use borrow.Author.Tests.{leb-true, le-leb, eqb-false, ne_eqb, not-true}
-use Rattle.refusal.specs.declared.Verdict.{Verdict}
-use Rattle.refusal.specs.declared.Verdict.TheVariants.{Fine}
-use Rattle.refusal.specs.Chain.{◌then◌}
-use Rattle.refusal.proofs.Chain.{go, then_fine, need_fine, then_ok, need_ok, so, not_so}
+use Rattle.refusal.specs.Chain.{Fine}
+use Rattle.refusal.proofs.Chain.{then_fine, need_fine, then_ok, need_ok, so, not_so, placed_fine, placed_ok}
 use Rattle.rule_set.specs.RuleSet.{is_rule_set}
-use Rattle.file_layout.specs.Layout.{byte, word, marked, QP, VE, VA, CT, EN, n_of, m_of, has_rules, variables_at, domain_at, one_at, two_at, row_at, constraints_at, after_constraints, end_at}
+use Rattle.file_layout.specs.Layout.{byte, word, marked, QP, VE, VA, CT, EN, n_of, m_of, has_rules, domain_at, one_at, two_at, row_at}
 use Rattle.file_layout.proofs.LayoutLaws.{opened_out, opened_in}
-use Rattle.file_records.specs.Records.{qp_test, rs_test, variable_test, variables_test, constraint_test, last_pair, constraints_test, en_test, rest_test, verdict_of}
+use Rattle.file_records.specs.Records.{qp_test, rs_test, variable_test, variables_test, constraint_test, last_pair, constraints_test, en_test}
 use Rattle.file_layout.proofs.NumberLaws.{Counts, counts_out, counts_in, Fits, fits_out, fits_in_lem}
 
 -- QP.
@@ -29,22 +27,22 @@ unfolding qp_test
 qp_out f q =
     let a = then_fine _ _ q in
     let o = opened_out _ _ _ _ a.0 in
-    record { within = o.0; mark = o.1; counts = counts_out _ _ (need_fine _ _ _ a.1) }
+    record { within = o.0; mark = o.1; counts = counts_out _ _ (need_fine _ _ a.1) }
 
 pub qp_in : (f : List ℕ) → HeadRecord f → qp_test f ≡ Fine
 unfolding qp_test
-qp_in f h = then_ok _ _ (opened_in f 0 _ 3 h.within h.mark) (need_ok _ _ _ (counts_in _ _ h.counts))
+qp_in f h = then_ok _ _ (opened_in f 0 _ 3 h.within h.mark) (need_ok _ _ (counts_in _ _ h.counts))
 
 -- RS.
 pub rs_out : (f : List ℕ) → rs_test f ≡ Fine → has_rules f ≡ true → (8 ≤ length f) × (is_rule_set (byte f 7) ≡ true)
 unfolding rs_test
 rs_out f q h =
     let a = then_fine _ _ (sym (so _ _ h) ∙ q) in
-    ((opened_out _ _ _ _ a.0).0, need_fine _ _ _ a.1)
+    ((opened_out _ _ _ _ a.0).0, need_fine _ _ a.1)
 
 pub rs_in : (f : List ℕ) (d : Bool) → has_rules f ≡ d → (d ≡ true → (8 ≤ length f) × (is_rule_set (byte f 7) ≡ true)) → rs_test f ≡ Fine
 unfolding rs_test
-rs_in f true e h = so _ _ e ∙ then_ok _ _ (opened_in f 5 true 1 (h refl).0 refl) (need_ok _ _ _ (h refl).1)
+rs_in f true e h = so _ _ e ∙ then_ok _ _ (opened_in f 5 true 1 (h refl).0 refl) (need_ok _ _ (h refl).1)
 rs_in f false e h = not_so _ _ e
 
 -- VE and VA.
@@ -61,13 +59,13 @@ variable_out f p q =
     record {
       within = omega (arith, o.0);
       mark = o.1;
-      domain = eqb-false _ _ (not-true _ (need_fine _ _ _ a.1));
+      domain = eqb-false _ _ (not-true _ (need_fine _ _ a.1));
     }
 
 variable_in : (f : List ℕ) (p : ℕ) → Variable f p → variable_test f p ≡ Fine
 unfolding variable_test
 variable_in f p v =
-    then_ok _ _ (opened_in f p _ 2 (omega (arith, v.within)) v.mark) (need_ok _ _ _ (ap not (ne_eqb (word f (p + 2)) 0 v.domain)))
+    then_ok _ _ (opened_in f p _ 2 (omega (arith, v.within)) v.mark) (need_ok _ _ (ap not (ne_eqb (word f (p + 2)) 0 v.domain)))
 
 pub variables_out : (f : List ℕ) (b k : ℕ) → variables_test f b k ≡ Fine → (i : ℕ) → i < k → Variable f (b + 4 * i)
 unfolding variables_test
@@ -100,11 +98,11 @@ unfolding constraint_test
 constraint_out f b n last p q =
     let a = then_fine _ _ q in
     let o = opened_out _ _ _ _ a.0 in
-    record { within = omega (arith, o.0); mark = o.1; fits = fits_out _ _ _ _ _ _ _ a.1 }
+    record { within = omega (arith, o.0); mark = o.1; fits = fits_out _ _ _ _ _ _ (placed_fine _ _ a.1) }
 
 constraint_in : (f : List ℕ) (b n last p : ℕ) → Constraint f b n last p → constraint_test f b n last p ≡ Fine
 unfolding constraint_test
-constraint_in f b n last p t = then_ok _ _ (opened_in f p _ 34 (omega (arith, t.within)) t.mark) (fits_in_lem _ _ _ _ _ _ _ t.fits)
+constraint_in f b n last p t = then_ok _ _ (opened_in f p _ 34 (omega (arith, t.within)) t.mark) (placed_ok _ _ (fits_in_lem _ _ _ _ _ _ t.fits))
 
 pub constraints_out : (f : List ℕ) (b n q k : ℕ) → constraints_test f b n q k ≡ Fine → (t : ℕ) → t < k → Constraint f b n (last_pair f q t) (q + 36 * t)
 unfolding constraints_test
@@ -128,20 +126,9 @@ unfolding en_test
 en_out f p q =
     let a = then_fine _ _ q in
     let o = opened_out _ _ _ _ a.0 in
-    let h : length f ≤ p + 2 = leb-true _ _ (need_fine _ _ _ a.1) in
+    let h : length f ≤ p + 2 = leb-true _ _ (need_fine _ _ a.1) in
     (omega (arith, o.0), o.1)
 
 pub en_in : (f : List ℕ) (p : ℕ) → length f ≡ p + 2 → marked f p EN ≡ true → en_test f p ≡ Fine
 unfolding en_test
-en_in f p e m = then_ok _ _ (opened_in f p _ 0 (omega arith) m) (need_ok _ _ _ (le-leb (length f) (p + 2) (omega arith)))
-
--- The records behind `QP`, whose verdicts the code finds one by one.
-pub rest_is : (f : List ℕ) (b n m : ℕ) (v t e r : Verdict) → b ≡ variables_at f → n ≡ n_of f → m ≡ m_of f → v ≡ variables_test f b n → v ≡ Fine →
-    t ≡ constraints_test f b n (b + 4 * n) m → e ≡ en_test f (b + 4 * n + 36 * m) → r ≡ (t then e) → r ≡ rest_test f
-unfolding rest_test constraints_at end_at after_constraints
-rest_is f b n m v t e r eb en em ev q et ee er = er ∙ rw (et, ee, eb, en, em) (sym (go _ _ (rw (← eb, ← en) (sym ev ∙ q))))
-
--- The whole file, whose `QP` is fine.
-pub verdict_is : (f : List ℕ) (a r t v : Verdict) → a ≡ qp_test f → a ≡ Fine → r ≡ rs_test f → t ≡ rest_test f → v ≡ (r then t) → v ≡ verdict_of f
-unfolding verdict_of
-verdict_is f a r t v ea q er et ev = ev ∙ rw (er, et) (sym (go _ _ (sym ea ∙ q)))
+en_in f p e m = then_ok _ _ (opened_in f p _ 0 (omega arith) m) (need_ok _ _ (le-leb (length f) (p + 2) (omega arith)))

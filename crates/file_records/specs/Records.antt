@@ -1,24 +1,24 @@
 -- Which files are accepted, record by record in the order of the file: "In a file, the earliest record decides; within it Short for
 -- the mark, Mark, Short for the body, then 3, 8, 4, 5, 6, 7 as they apply." The place is the record's first byte.
 use Rattle.std.specs.Prelude.{ℕ, zero, suc, ◌+◌, ◌*◌, true, ◌||◌, not, List, length, leb, eqb}
-use Rattle.refusal.specs.declared.Verdict.{Verdict}
-use Rattle.refusal.specs.declared.Verdict.TheVariants.{Fine}
-use Rattle.refusal.specs.Chain.{◌then◌, need, only}
+use Rattle.refusal.specs.declared.reason.Reason.TheVariants.{Count, Domain, Rules, Tail}
+use Rattle.refusal.specs.Reason.{◌at◌}
+use Rattle.refusal.specs.Chain.{Verdict, Fine, ◌then◌, need, only, placed}
 use Rattle.rule_set.specs.RuleSet.{is_rule_set}
 use Rattle.file_layout.specs.Layout.{byte, word, marked, opened, QP, VE, VA, CT, EN, n_of, m_of, has_rules, variables_at, domain_at, one_at, two_at, row_at, pair_at, constraints_at, end_at}
 use Rattle.file_layout.specs.Numbers.{counts_fit, constraint_fits}
 
 -- `QP`.
 unfoldable pub qp_test : List ℕ → Verdict
-qp_test f = opened f 0 (marked f 0 QP) 3 then need (counts_fit (n_of f) (m_of f)) 3 0
+qp_test f = opened f 0 (marked f 0 QP) 3 then need (counts_fit (n_of f) (m_of f)) (Count at 0)
 
 -- `RS`, where it stands.
 unfoldable pub rs_test : List ℕ → Verdict
-rs_test f = only (has_rules f) (opened f 5 true 1 then need (is_rule_set (byte f 7)) 8 5)
+rs_test f = only (has_rules f) (opened f 5 true 1 then need (is_rule_set (byte f 7)) (Rules at 5))
 
 -- `VE` or `VA` at p, and the first k of them from b.
 unfoldable pub variable_test : List ℕ → ℕ → Verdict
-variable_test f p = opened f p (marked f p VE || marked f p VA) 2 then need (not (eqb (word f (p + 2)) 0)) 4 p
+variable_test f p = opened f p (marked f p VE || marked f p VA) 2 then need (not (eqb (word f (p + 2)) 0)) (Domain at p)
 
 unfoldable pub variables_test : List ℕ → ℕ → ℕ → Verdict
 variables_test f b zero = Fine
@@ -26,7 +26,8 @@ variables_test f b (suc k) = variables_test f b k then variable_test f (b + 4 * 
 
 -- `CT` at p, behind a constraint of the pair last, and the first k of them from q.
 unfoldable pub constraint_test : List ℕ → ℕ → ℕ → ℕ → ℕ → Verdict
-constraint_test f b n last p = opened f p (marked f p CT) 34 then constraint_fits (domain_at f b) n last (one_at f p) (two_at f p) (row_at f p) p
+constraint_test f b n last p =
+    opened f p (marked f p CT) 34 then placed p (constraint_fits (domain_at f b) n last (one_at f p) (two_at f p) (row_at f p))
 
 unfoldable pub last_pair : List ℕ → ℕ → ℕ → ℕ
 last_pair f q zero = 0
@@ -36,9 +37,9 @@ unfoldable pub constraints_test : List ℕ → ℕ → ℕ → ℕ → ℕ → V
 constraints_test f b n q zero = Fine
 constraints_test f b n q (suc k) = constraints_test f b n q k then constraint_test f b n (last_pair f q k) (q + 36 * k)
 
--- `EN` at p, and nothing behind it: 9 at the first byte too many.
+-- `EN` at p, and nothing behind it: Tail at the first byte too many.
 unfoldable pub en_test : List ℕ → ℕ → Verdict
-en_test f p = opened f p (marked f p EN) 0 then need (leb (length f) (p + 2)) 9 (p + 2)
+en_test f p = opened f p (marked f p EN) 0 then need (leb (length f) (p + 2)) (Tail at (p + 2))
 
 -- The records behind `QP` and `RS`.
 unfoldable pub rest_test : List ℕ → Verdict

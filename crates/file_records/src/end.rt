@@ -3,12 +3,12 @@ ghost use Rattle.std.specs.Prelude.{◌≡◌, ◌≤◌};
 ghost use Rattle.file_records.specs.Records.{en_test};
 
 use file_layout::{is_marked, opened_at};
-use refusal::{Verdict, first, needed};
+use refusal::{Fault, Reason, needed};
 
-pub fn en_test(f: &[u8], p: usize) -> Verdict
+pub fn en_test(f: &[u8], p: usize) -> Result<(), Fault>
     requires { p ≤ 65535 }
     ensures { result ≡ en_test f.now p }
 {
-    let o = opened_at(f, p, is_marked(f, p, b"EN"), 0);
-    first(o, needed(f.len() <= p + 2, 9, p + 2))
+    opened_at(f, p, is_marked(f, p, b"EN"), 0)?;
+    needed(f.len() <= p + 2, Reason::Tail.at(p + 2))
 }

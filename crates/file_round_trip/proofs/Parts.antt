@@ -8,7 +8,7 @@ use lib.Seq.{drop-cons, take-add, drop-drop, take_all}
 use native.Mathlib.Nat.{zero-add}
 use native.Mathlib.Numerals.{add-one}
 use native.Mathlib.Omega.{arith}
-use Rattle.file_layout.specs.declared.Rules.TheVariants.{Absent, Given}
+use Rattle.std.specs.Prelude.{None, Some}
 use Rattle.file_layout.specs.Layout.{byte, word, marked, QP, RS, VE, VA, CT, EN, n_of, m_of, has_rules, rules_of, variables_at, domain_at, universal_at, one_at, two_at, row_at, constraints_at, after_constraints, end_at}
 use Rattle.file_layout.proofs.LayoutLaws.{mark_out, variables-before, end_behind}
 use Rattle.file_records.proofs.RecordLaws.{Variable}
@@ -155,7 +155,7 @@ module _ (f : List ℕ) (bytes : (k : ℕ) → get_or f k 0 < 256) where
       ∙ ap (λ (x : List ℕ). x ++ part f 3 2) (part_more f 0 2 1)
       ∙ part_more f 0 3 2
 
-  rs_part : (d : Bool) → marked f 5 RS ≡ d → cond d 8 5 ≤ length f → rs_bytes (cond d (Given (byte f 7)) Absent) ≡ part f 5 (cond d 3 0)
+  rs_part : (d : Bool) → marked f 5 RS ≡ d → cond d 8 5 ≤ length f → rs_bytes (cond d (Some (byte f 7)) None) ≡ part f 5 (cond d 3 0)
   unfolding rs_bytes
   rs_part true m h =
       ap (λ (x : List ℕ). x ++ (byte f 7 ∷ [])) (mark_part f 5 RS m)

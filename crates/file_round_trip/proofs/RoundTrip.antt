@@ -11,21 +11,20 @@ use native.Mathlib.Omega.{arith}
 use Rattle.mask.proofs.Logic.{by_eq, by_lt}
 use Rattle.mask.proofs.Bits.{bit_ext}
 use Rattle.mask.proofs.Masks.{mask_of_lt, bit-mask_of}
-use Rattle.refusal.specs.declared.Verdict.{Verdict}
-use Rattle.refusal.specs.declared.Verdict.TheVariants.{Fine}
-use Rattle.refusal.specs.declared.Verdict.TheVariants.{Refused as Not}
+use Rattle.std.specs.Prelude.{Ok, Err, None, Some}
+use Rattle.refusal.specs.Chain.{Test, Fine}
 use Rattle.refusal.specs.Told.{replied}
-use Rattle.file_layout.specs.declared.Rules.TheVariants.{Absent, Given}
+use Rattle.refusal.specs.Replied.{replied_for}
 use Rattle.file_layout.specs.Layout.{byte, n_of, m_of, has_rules, rules_of, variables_at, domain_at, universal_at, one_at, two_at, row_at, pair_at, constraints_at}
 use Rattle.file_records.specs.Records.{last_pair, verdict_of}
 use Rattle.file_reader.specs.declared.Head.{Head}
-use Rattle.file_reader.specs.Reading.{header_numbers, told, universal_bits, domains_to, head_of, header_for, domains_for, header_of, domains_of}
+use Rattle.file_reader.specs.Reading.{header_numbers, universal_bits, domains_to, head_of, header_for, domains_for, header_of, domains_of}
 use Rattle.file_reader.proofs.Accepted.{Accepted, accepted, file-length, header_is, domains_is, header_shows, head_is, length-domains, domains-length, domain_in_lem, read_domain, domain-some, read_universal}
 use Rattle.file_lookup.specs.Lookup.{constraints_shown, numbers_to}
 use Rattle.file_lookup.proofs.Shown.{length_numbers, number-one, number-two, number-row, shown_all}
 use Rattle.file_bytes.specs.Bytes.{Handed, bytes_of, start_of, length_of, domain_in, one_in, two_in, row_handed}
 use Rattle.file_writer.specs.Tests.{rules_fit, pair_in, last_in}
-use Rattle.file_writer.specs.Writing.{told_for, write_told, write_buffer}
+use Rattle.file_writer.specs.Writing.{write_told, write_buffer}
 use Rattle.file_writer.proofs.Writable.{Writable, writable, write_fine, told_fine, buffer_fine}
 use Rattle.file_round_trip.specs.Writes.{Writes}
 use Rattle.file_round_trip.specs.Shown.{shown_with, head_in, Shown}
@@ -39,7 +38,7 @@ start-shown : (f : List ℕ) → start_of (rules_of f) ≡ variables_at f
 unfolding start_of rules_of variables_at
 start-shown f = go (has_rules f)
   where
-    go : (d : Bool) → start_of (cond d (Given (byte f 7)) Absent) ≡ cond d 8 5
+    go : (d : Bool) → start_of (cond d (Some (byte f 7)) None) ≡ cond d 8 5
     go true = refl
     go false = refl
 
@@ -47,7 +46,7 @@ rules-shown : (f : List ℕ) → Accepted f → rules_fit (rules_of f) ≡ true
 unfolding rules_fit rules_of
 rules-shown f a = go (has_rules f) refl
   where
-    go : (d : Bool) → has_rules f ≡ d → rules_fit (cond d (Given (byte f 7)) Absent) ≡ true
+    go : (d : Bool) → has_rules f ≡ d → rules_fit (cond d (Some (byte f 7)) None) ≡ true
     go true e = (a.rules e).1
     go false e = refl
 
@@ -108,7 +107,6 @@ pub write_back : (f old : List ℕ) (x : Head) → ((k : ℕ) → get_or f k 0 <
     header_of f ≡ replied (header_numbers x) → length f ≤ length old →
     (write_told (shown_with x f) (length old) ≡ replied (length f ∷ []))
     × (write_buffer (shown_with x f) old ≡ f ++ drop (length f) old)
-unfolding told
 write_back f old x bytes e h =
     let s = header_shows f x (sym e) in
     let q = write_fine _ _ (writable_shown f s.fine (length old) h) in
@@ -206,16 +204,16 @@ module _ (h : Handed) (room : ℕ) (ok : Writable h room) where
   shown_back = record { header = header_back; masks = domains_back; rows = constraints_back }
 
 -- What the writer took was fine, and the length told is that of the file.
-told-length : (v : Verdict) (bytes : List ℕ) (k : ℕ) → told_for v bytes ≡ replied (k ∷ []) → (v ≡ Fine) × (length bytes ≡ k)
-unfolding told_for
-told-length Fine bytes k e = (refl, cc)
-told-length (Not d p) bytes k e = let z : ◌≡◌ {A = ℕ} 0 1 = cc in absurd (omega arith)
+told-length : (t : Test) (j k : ℕ) → replied_for t (j ∷ []) ≡ replied (k ∷ []) → (t ≡ Fine) × (j ≡ k)
+unfolding replied_for
+told-length (Ok u) j k e = (refl, cc)
+told-length (Err r) j k e = absurd (cc)
 
 -- For all numbers that the writer takes, and every buffer, the reader and the look-up show of the bytes written just those numbers.
 pub read_back : (h : Handed) (old : List ℕ) (k : ℕ) → write_told h (length old) ≡ replied (k ∷ []) → Shown (take k (write_buffer h old)) h
 unfolding write_told
 read_back h old k e =
-    let t = told-length _ (bytes_of h) k e in
+    let t = told-length _ _ k e in
     let w = writable h (length old) t.0 in
     rw (buffer_fine h old t.0, take_at (bytes_of h) (drop (length (bytes_of h)) old) k t.1) (shown_back h (length old) w)
 

@@ -6,10 +6,9 @@ use mathlib.Core.List.{List, [], ◌∷◌, ◌++◌}
 use lib.ListN.{length, get_or}
 use native.Mathlib.Nat.{zero-add}
 use native.Mathlib.Omega.{arith}
-use Rattle.refusal.specs.declared.Verdict.TheVariants.{Fine}
+use Rattle.refusal.specs.Chain.{Fine}
 use Rattle.rule_set.specs.RuleSet.{is_rule_set}
-use Rattle.file_layout.specs.declared.Rules.{Rules}
-use Rattle.file_layout.specs.declared.Rules.TheVariants.{Absent, Given}
+use Rattle.std.specs.Prelude.{Option, None, Some}
 use Rattle.file_layout.specs.Layout.{byte, word, marked, QP, RS, EN, n_of, m_of, has_rules, rules_of, variables_at, domain_at, universal_at, one_at, two_at, row_at, pair_at, constraints_at, after_constraints, end_at}
 use Rattle.file_layout.proofs.NumberLaws.{Fits}
 use Rattle.file_records.specs.Records.{last_pair, verdict_of}
@@ -41,20 +40,20 @@ fits_same domain domain' n last last' i i' j j' row row' el ei ej ed er t =
 
 -- What stands behind `QP` says which rule set there is: without `RS` it is the V of the first variable's mark.
 module _ (f : List ℕ) where
-  rules_is : (r : Rules) → StandsAt f 5 (rs_bytes r) → (r ≡ Absent → get_or f 5 0 ≡ 86) → rules_of f ≡ r
+  rules_is : (r : Option ℕ) → StandsAt f 5 (rs_bytes r) → (r ≡ None → get_or f 5 0 ≡ 86) → rules_of f ≡ r
   unfolding rules_of rs_bytes mark_bytes
-  rules_is Absent a h = rw (not_first f 5 RS (λ e. omega (arith, h refl)))
-  rules_is (Given k) a h = rw (mark_is f 5 RS (left f 5 (mark_bytes RS) (k ∷ []) a), a.same 2 (omega arith))
+  rules_is None a h = rw (not_first f 5 RS (λ e. omega (arith, h refl)))
+  rules_is (Some k) a h = rw (mark_is f 5 RS (left f 5 (mark_bytes RS) (k ∷ []) a), a.same 2 (omega arith))
 
-  start_is : (r : Rules) → StandsAt f 5 (rs_bytes r) → (r ≡ Absent → get_or f 5 0 ≡ 86) → variables_at f ≡ start_of r
+  start_is : (r : Option ℕ) → StandsAt f 5 (rs_bytes r) → (r ≡ None → get_or f 5 0 ≡ 86) → variables_at f ≡ start_of r
   unfolding variables_at start_of rs_bytes mark_bytes
-  start_is Absent a h = rw (not_first f 5 RS (λ e. omega (arith, h refl)))
-  start_is (Given k) a h = rw (mark_is f 5 RS (left f 5 (mark_bytes RS) (k ∷ []) a))
+  start_is None a h = rw (not_first f 5 RS (λ e. omega (arith, h refl)))
+  start_is (Some k) a h = rw (mark_is f 5 RS (left f 5 (mark_bytes RS) (k ∷ []) a))
 
-  rules_fit_lem : (r : Rules) → StandsAt f 5 (rs_bytes r) → (r ≡ Absent → get_or f 5 0 ≡ 86) → rules_fit r ≡ true → has_rules f ≡ true → (8 ≤ length f) × (is_rule_set (byte f 7) ≡ true)
+  rules_fit_lem : (r : Option ℕ) → StandsAt f 5 (rs_bytes r) → (r ≡ None → get_or f 5 0 ≡ 86) → rules_fit r ≡ true → has_rules f ≡ true → (8 ≤ length f) × (is_rule_set (byte f 7) ≡ true)
   unfolding rs_bytes rules_fit mark_bytes
-  rules_fit_lem Absent a h low e = absurd (false≢true (sym (not_first f 5 RS (λ g. omega (arith, h refl))) ∙ e))
-  rules_fit_lem (Given k) a h low e = (a.long, ap is_rule_set (a.same 2 (omega arith)) ∙ low)
+  rules_fit_lem None a h low e = absurd (false≢true (sym (not_first f 5 RS (λ g. omega (arith, h refl))) ∙ e))
+  rules_fit_lem (Some k) a h low e = (a.long, ap is_rule_set (a.same 2 (omega arith)) ∙ low)
 
 -- Both marks of a variable begin with V.
 first_of : (d : Bool) → get_or (variable_mark d) 0 0 ≡ 86
@@ -75,7 +74,7 @@ module _ (x : Handed) (room : ℕ) (ok : Writable x room) where
   abbrev m : ℕ
   m = x.m
 
-  abbrev rules : Rules
+  abbrev rules : Option ℕ
   rules = x.rules
 
   abbrev universal : ℕ → Bool
@@ -157,7 +156,7 @@ module _ (x : Handed) (room : ℕ) (ok : Writable x room) where
   unfolding qp_bytes mark_bytes word_bytes
   begins = mark_is F 0 QP (left F 0 (mark_bytes QP) ((n ∷ []) ++ word_bytes m) qp)
 
-  first_mark : rules ≡ Absent → get_or F 5 0 ≡ 86
+  first_mark : rules ≡ None → get_or F 5 0 ≡ 86
   unfolding s start_of variable_bytes mark_bytes
   first_mark e =
       let a = variable 0 ok.counts.some in

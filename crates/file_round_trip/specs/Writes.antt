@@ -1,6 +1,6 @@
 -- Which lists are files, by the numbers that the writer is handed.
 use Rattle.std.specs.Prelude.{ℕ, ◌≡◌, List, length}
-use Rattle.refusal.specs.declared.Verdict.TheVariants.{Fine}
+use Rattle.refusal.specs.Chain.{Fine}
 use Rattle.file_bytes.specs.Bytes.{Handed, bytes_of}
 use Rattle.file_writer.specs.Tests.{write_test}
 

@@ -8,45 +8,38 @@ ghost use Rattle.file_writer.specs.Writing.{told, write_told, write_buffer};
 
 mod tests;
 
-use file_bytes::{Numbers, length_of, put_all};
-use file_layout::Rules;
-use refusal::Verdict;
-use tests::write_test;
+use file_bytes::Numbers;
+use file_layout::counts_fit;
+use refusal::{Reason, needed};
+use tests::{lists_fit, rest_test};
 
-// The length written, or a refusal's number.
-#[derive(Clone, Copy)]
-pub enum Written {
-    Length(usize),
-    Refused(u8),
-}
-
-// Writes the file of these numbers at the front of buf: n domains, and 18 numbers a constraint (i, j, its rows).
+// Writes the file of these numbers at the front of buf: n domains, and 18 numbers a constraint (i, j, its rows). Replies its length.
 pub fn write(
     buf: &mut [u8],
     n: usize,
     m: usize,
-    rules: Rules,
+    rules: Option<u8>,
     universal: u64,
     domains: &[u16],
     constraints: &[u16],
-) -> Written
+) -> Result<usize, Reason>
     ensures result_value { told result ≡ write_told (handed n m rules universal domains.now constraints.now)
         (length buf.old) }
     ensures buf_after { buf.new ≡ write_buffer (handed n m rules universal domains.now constraints.now)
         buf.old }
 {
+    needed(counts_fit(n, m), Reason::Count)?;
+    needed(
+        lists_fit(n, m, domains.len(), constraints.len()),
+        Reason::Lent,
+    )?;
     let x = Numbers {
-        n: n,
-        m: m,
-        rules: rules,
-        universal: universal,
+        n,
+        m,
+        rules,
+        universal,
     };
-    let v = write_test(x, domains, constraints, buf.len());
-    match v {
-        Verdict::Refused(number, _) => Written::Refused(number),
-        Verdict::Fine => {
-            put_all(buf, x, domains, constraints);
-            Written::Length(length_of(n, m, rules))
-        }
-    }
+    rest_test(x, domains, constraints, buf.len())?;
+    x.put(buf, domains, constraints);
+    Ok(x.length())
 }

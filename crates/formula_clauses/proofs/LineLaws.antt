@@ -10,10 +10,10 @@ use borrow.Author.Tests.{lt-ltb, le-ltb}
 use Rattle.mask.specs.Mask.{bit}
 use Rattle.buffer.specs.Stored.{joined}
 use Rattle.buffer.specs.Put.{largest, Put}
-use Rattle.buffer.proofs.PutLaws.{put_none, put_behind, put_kept}
+use Rattle.buffer.proofs.PutLaws.{put_none, put_behind}
 use Rattle.formula.specs.Formula.{Literal, only_if}
 use Rattle.formula.specs.Text.{line_end, clause_text, clauses_text}
-use Rattle.solver_arrays.specs.declared.Variables.{Variables}
+use Rattle.solver_arrays.specs.declared.arrays.Arrays.{Arrays}
 use Rattle.formula_words.specs.declared.coded.Coded.{Coded}
 use Rattle.formula_words.specs.Coding.{coded_in}
 use Rattle.formula_words.specs.Words.{literals_text, words_text, positives}
@@ -42,10 +42,6 @@ unfolding clauses_text
 lines_none l s h g k = record { text = put_none l s.at h g; count = omega arith }
 
 module _ {l l' : List ℕ} {s r : Spot} where
-  -- The buffer keeps its length.
-  pub lines_kept : {cs : List (List Literal)} → Lines l s cs r l' → length l' ≡ length l
-  lines_kept p = put_kept p.text
-
   -- One clause: its literals, and the end of the line.
   lines_clause : {m : List ℕ} {e : ℕ} (c : List Literal) → Put l s.at (literals_text c) e m → Put m e line_end r.at l' → r.clauses ≡ min largest (s.clauses + 1)
       → Lines l s (c ∷ []) r l'
@@ -95,16 +91,16 @@ lines_skip l s b cs t h g k = rw t (lines_none l s h g k)
 
 -- ---- at least one value of a variable, by side
 
-module _ (v : Variables) (i : ℕ) (x : Coded) (e : x ≡ coded_in v i) where
-  side : bit v.universal i ≡ x.universal
+module _ (A : Arrays) (i : ℕ) (x : Coded) (e : x ≡ coded_in A i) where
+  side : bit A.universal i ≡ x.universal
   unfolding coded_in
   side = ap (λ (z : Coded). z.universal) (sym e)
 
-  pub existential_none : (l : List ℕ) (s : Spot) → x.universal ≡ true → length l ≤ largest → s.at ≤ largest → s.clauses ≤ largest → Lines l s (existential_of v i) s l
+  pub existential_none : (l : List ℕ) (s : Spot) → x.universal ≡ true → length l ≤ largest → s.at ≤ largest → s.clauses ≤ largest → Lines l s (existential_of A i) s l
   unfolding existential_of
-  existential_none l s t = lines_skip l s (not (bit v.universal i)) _ (ap not (side ∙ t))
+  existential_none l s t = lines_skip l s (not (bit A.universal i)) _ (ap not (side ∙ t))
 
-  pub existential_some : {l l' : List ℕ} {s r : Spot} → x.universal ≡ false → Lines l s (positives x.base x.size ∷ []) r l' → Lines l s (existential_of v i) r l'
+  pub existential_some : {l l' : List ℕ} {s r : Spot} → x.universal ≡ false → Lines l s (positives x.base x.size ∷ []) r l' → Lines l s (existential_of A i) r l'
   unfolding existential_of
   existential_some {l} {l'} {s} {r} t p =
-      lines_if (not (bit v.universal i)) (ap not (side ∙ t)) (subst (λ (z : Coded). Lines l s (positives z.base z.size ∷ []) r l') e p)
+      lines_if (not (bit A.universal i)) (ap not (side ∙ t)) (subst (λ (z : Coded). Lines l s (positives z.base z.size ∷ []) r l') e p)

@@ -5,7 +5,7 @@ use Rattle.mask.specs.Range.{count}
 use Rattle.mask.specs.Mask.{bit, diff}
 use Rattle.buffer.specs.Stored.{joined}
 use Rattle.solver_arrays.specs.Arrays.{row_in}
-use Rattle.solver_arrays.specs.declared.Variables.{Variables}
+use Rattle.solver_arrays.specs.declared.arrays.Arrays.{Arrays}
 use Rattle.formula.specs.Formula.{Literal, only_if}
 use Rattle.formula_words.specs.declared.coded.Coded.{Coded}
 use Rattle.formula_words.specs.Coding.{coded_in}
@@ -28,23 +28,23 @@ unfoldable pub value_of : Coded → ℕ → Coded → ℕ → List (List Literal
 value_of x a y row = only_if (bit x.domain a) (row_of x (count a (bit x.domain)) y (diff y.domain row))
 
 -- The clashes of the constraint of variable i, coded x, and j, coded y.
-unfoldable pub constraint_of : List ℕ → List ℕ → ℕ → Coded → ℕ → Coded → List (List Literal)
-constraint_of index rows i x j y = joined (λ a. value_of x a y (row_in index rows i a j)) 16
+unfoldable pub constraint_of : Arrays → ℕ → Coded → ℕ → Coded → List (List Literal)
+constraint_of A i x j y = joined (λ a. value_of x a y (row_in A i a j)) 16
 
-module _ (near index rows : List ℕ) (v : Variables) where
+module _ (A : Arrays) where
   -- Those of i and j, if i comes before j and a constraint joins them; of i with all others; of all.
   unfoldable pub pair_of : ℕ → ℕ → List (List Literal)
-  pair_of i j = only_if (ltb i j && bit (get_or near i 0) j) (constraint_of index rows i (coded_in v i) j (coded_in v j))
+  pair_of i j = only_if (ltb i j && bit (get_or A.near i 0) j) (constraint_of A i (coded_in A i) j (coded_in A j))
 
   unfoldable pub later_of : ℕ → List (List Literal)
-  later_of i = joined (pair_of i) v.n
+  later_of i = joined (pair_of i) A.n
 
   unfoldable pub constraints_of : List (List Literal)
-  constraints_of = joined later_of v.n
+  constraints_of = joined later_of A.n
 
 -- At least one value of variable i, if it is existential; of all variables.
-unfoldable pub existential_of : Variables → ℕ → List (List Literal)
-existential_of v i = only_if (not (bit v.universal i)) (positives (coded_in v i).base (coded_in v i).size ∷ [])
+unfoldable pub existential_of : Arrays → ℕ → List (List Literal)
+existential_of A i = only_if (not (bit A.universal i)) (positives (coded_in A i).base (coded_in A i).size ∷ [])
 
-unfoldable pub existentials_of : Variables → List (List Literal)
-existentials_of v = joined (existential_of v) v.n
+unfoldable pub existentials_of : Arrays → List (List Literal)
+existentials_of A = joined (existential_of A) A.n

@@ -9,7 +9,6 @@ ghost use Rattle.formula_clauses.specs.Lines.{Lines};
 ghost use Rattle.formula_clauses.specs.Clauses.{for_ways, clash_of, row_of, value_of};
 
 use crate::Spot;
-use buffer::next;
 use formula_words::{Coded, place_of, put_denial, put_end};
 use mask::{contains, difference};
 
@@ -23,7 +22,7 @@ fn put_clause(out: &mut [u8], s: Spot, x: Coded, c: usize, y: Coded, d: usize) -
     let e = put_end(out, b);
     Spot {
         at: e,
-        clauses: next(s.clauses),
+        clauses: s.clauses.saturating_add(1),
     }
 }
 
@@ -71,10 +70,8 @@ fn put_row(out: &mut [u8], s: Spot, x: Coded, p: usize, y: Coded, bad: u16) -> S
     ensures { Lines out.old s (row_of x p y bad) result out.new }
 {
     let mut r = s;
-    let mut b = 0;
-    while b < 16 {
+    for b in 0..16 {
         r = put_bad(out, r, x, p, y, bad, b);
-        b += 1;
     }
     r
 }

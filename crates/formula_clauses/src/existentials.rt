@@ -5,9 +5,8 @@ ghost use Rattle.formula_clauses.specs.Lines.{Lines};
 ghost use Rattle.formula_clauses.specs.Clauses.{existential_of, existentials_of};
 
 use crate::Spot;
-use buffer::next;
 use formula_words::{coding_of, put_end, put_words};
-use solver_arrays::Variables;
+use solver_arrays::Arrays;
 
 // Some of the k booleans behind `base`.
 pub fn put_some(out: &mut [u8], s: Spot, base: usize, k: usize) -> Spot
@@ -18,16 +17,16 @@ pub fn put_some(out: &mut [u8], s: Spot, base: usize, k: usize) -> Spot
     let e = put_end(out, a);
     Spot {
         at: e,
-        clauses: next(s.clauses),
+        clauses: s.clauses.saturating_add(1),
     }
 }
 
 // At least one value of variable i, if it is existential.
-fn put_existential(out: &mut [u8], s: Spot, v: Variables, i: usize) -> Spot
+fn put_existential(out: &mut [u8], s: Spot, arrays: &Arrays, i: usize) -> Spot
     requires { i < 32 }
-    ensures { Lines out.old s (existential_of v i) result out.new }
+    ensures { Lines out.old s (existential_of arrays.now i) result out.new }
 {
-    let x = coding_of(v, i);
+    let x = coding_of(arrays, i);
     if x.universal {
         s
     } else {
@@ -35,16 +34,12 @@ fn put_existential(out: &mut [u8], s: Spot, v: Variables, i: usize) -> Spot
     }
 }
 
-pub fn put_existentials(out: &mut [u8], s: Spot, v: Variables) -> Spot
-    requires { v.n ≤ 32 }
-    ensures { Lines out.old s (existentials_of v) result out.new }
+pub fn put_existentials(out: &mut [u8], s: Spot, arrays: &Arrays) -> Spot
+    ensures { Lines out.old s (existentials_of arrays.now) result out.new }
 {
-    let n = v.n;
     let mut r = s;
-    let mut i = 0;
-    while i < n {
-        r = put_existential(out, r, v, i);
-        i += 1;
+    for i in 0..arrays.n {
+        r = put_existential(out, r, arrays, i);
     }
     r
 }

@@ -7,19 +7,22 @@ use lib.Dec.{leb→le}
 use lib.ListN.{length, length-append, take, drop}
 use lib.Seq.{take_at}
 use native.Mathlib.Omega.{arith}
-use Rattle.refusal.specs.declared.Verdict.{Verdict}
-use Rattle.refusal.specs.declared.Verdict.TheVariants.{Fine}
-use Rattle.refusal.specs.declared.Verdict.TheVariants.{Refused as Not}
-use Rattle.refusal.specs.Told.{replied, refused, refused_at}
+use Rattle.std.specs.Prelude.{Result, Ok, Err}
+use Rattle.refusal.specs.declared.reason.Reason.{Reason}
+use Rattle.refusal.specs.declared.reason.Fault.{Fault}
+use Rattle.refusal.specs.declared.reason.Refusal.{Refusal}
+use Rattle.refusal.specs.declared.reason.Refusal.TheVariants.{InFile, InCall}
+use Rattle.refusal.specs.Chain.{Verdict, Test, Fine}
+use Rattle.refusal.specs.Told.{replied, reason_told, fault_told, refusal_told, told_by}
 use Rattle.refusal.specs.Replied.{replied_for, list_for}
 use Rattle.refusal.proofs.Chain.{need_fine}
-use Rattle.refusal.proofs.RepliedLaws.{reply_refused, reply_told, list-refused, list_left}
+use Rattle.refusal.proofs.RepliedLaws.{reply_refused, reply_told, list_refused, list_left}
 use Rattle.mask.proofs.Logic.{true_holds}
 use Rattle.game.specs.Problem.{Problem}
 use Rattle.game.specs.Winning.{verdict}
 use Rattle.buffer.specs.Stored.{stored}
 use Rattle.buffer.proofs.StoredLaws.{stored-start}
-use Rattle.solver_arrays.specs.declared.Variables.{Variables}
+use Rattle.solver_arrays.specs.declared.arrays.Arrays.{Arrays}
 use Rattle.solver_arrays.specs.Arrays.{Poses}
 use Rattle.file_reader.specs.Reading.{verdict_of}
 use Rattle.file_reader.proofs.Accepted.{variables-some, variables_most}
@@ -38,42 +41,40 @@ use Rattle.formula_theory.proofs.CountLaws.{clauses_most}
 use Rattle.formula_text.specs.Written.{text_for, Printable, Measures, Prints}
 use Rattle.formula_judge.specs.Judgeable.{Judgeable}
 use Rattle.formula_clauses.specs.declared.Spot.{Spot}
-use Rattle.formula_entries.specs.declared.WrittenFormula.{WrittenFormula}
-use Rattle.formula_entries.specs.Told.{told, text_test, formula_test, formula_reply, formula_buffer, judge_formula_reply, Writes, formula_told, judge_formula_told, formula_left}
+use Rattle.formula_entries.specs.Told.{length_values, text_test, formula_test, formula_reply, formula_buffer, judge_formula_reply, Writes, formula_told, judge_formula_told, formula_left}
 
 -- ---- over the arrays
 
-module _ (v : Variables) (near index rows buf : List ℕ) (s : Spot) (m : Measures near index rows v s) (t : Verdict) (e : t ≡ text_test s.at (length buf)) where
-  test_is : (P : Problem) → Poses P v near index rows → t ≡ formula_test P (length buf)
+module _ (A : Arrays) (buf : List ℕ) (s : Spot) (m : Measures A s) (t : Test) (e : t ≡ text_test s.at (length buf)) where
+  test_is : (P : Problem) → Poses P A → t ≡ formula_test P (length buf)
   unfolding formula_test
   test_is P p = e ∙ ap (λ (k : ℕ). text_test k (length buf)) (m P p).0
 
-  pub short_writes : (number place : ℕ) → t ≡ Not number place → (P : Problem) → Poses P v near index rows → (refused number ≡ formula_reply P (length buf)) × (buf ≡ formula_buffer P buf)
+  pub short_writes : {x : Reason} (r : Result ℕ Reason) → t ≡ Err x → r ≡ Err x → Writes A buf buf r
   unfolding formula_reply formula_buffer
-  short_writes number place q P p = (reply_refused t _ number place _ q (test_is P p), list-refused t _ number place _ buf q (test_is P p))
+  short_writes r q z = λ P p. (ap (told_by length_values reason_told) z ∙ reply_refused _ _ (test_is P p) q, list_refused _ _ _ (test_is P p) q)
 
-  pub long_writes : (buf' : List ℕ) → t ≡ Fine → Prints near index rows v s.clauses buf buf' → (P : Problem) → Poses P v near index rows → (replied (s.at ∷ []) ≡ formula_reply P (length buf)) × (buf' ≡ formula_buffer P buf)
+  pub long_writes : {u : Unit {0}} (buf' : List ℕ) → t ≡ Ok u → Prints A s.clauses buf buf' → Writes A buf buf' (Ok s.at)
   unfolding formula_reply formula_buffer
-  long_writes buf' q w P p =
-      (reply_told t _ _ _ q (test_is P p) (ap (λ (k : ℕ). k ∷ []) (m P p).0), list_left t _ buf' _ buf q (test_is P p) (w P p (m P p).1))
+  long_writes buf' q w = λ P p. (reply_told _ _ (test_is P p) q (ap length_values (m P p).0), list_left _ _ _ (test_is P p) q (w P p (m P p).1))
 
 -- ---- over the file
 
-module _ (f : List ℕ) where
-  pub refused-told : (e p : ℕ) → verdict_of f ≡ Not e p → (room : ℕ) → refused_at e p ≡ formula_told f room
+module _ (f : List ℕ) (e : Fault) (q : verdict_of f ≡ Err e) where
+  pub refused-told : (room : ℕ) → fault_told e ≡ formula_told f room
   unfolding formula_told
-  refused-told e p q room = sym (read_refused f _ _ e p q)
+  refused-told room = sym (read_refused f _ _ e q)
 
-  pub refused-left : (e p : ℕ) → verdict_of f ≡ Not e p → (buf : List ℕ) → buf ≡ formula_left f buf
+  pub refused-left : (buf : List ℕ) → buf ≡ formula_left f buf
   unfolding formula_left
-  refused-left e p q buf = sym (read_refused f _ _ e p q)
+  refused-left buf = sym (read_refused f _ _ e q)
 
-module _ (f : List ℕ) (n : ℕ) (v : Variables) (near index rows : List ℕ) (g : FileGiven f n v near index rows) where
+module _ (f : List ℕ) (A : Arrays) (g : FileGiven f A) where
   -- What the arrays of an accepted file need to be printed.
-  pub printable : Printable index v
-  printable = let h = variables-some f g.fine in record { some = omega (arith, h, g.size, g.own); most = g.most; range = g.range }
+  pub printable : Printable A
+  printable = let h = variables-some f g.fine in record { some = omega (arith, h, g.size, A.first) }
 
-  pub file_writes : (buf buf' : List ℕ) (r : WrittenFormula) → Writes v near index rows buf buf' r → (told r ≡ formula_told f (length buf)) × (buf' ≡ formula_left f buf)
+  pub file_writes : (buf buf' : List ℕ) (r : Result ℕ Reason) → Writes A buf buf' r → (told_by length_values reason_told r ≡ formula_told f (length buf)) × (buf' ≡ formula_left f buf)
   unfolding formula_told formula_left
   file_writes buf buf' r w =
       let x = w (ordinary_of f g.fine) g.poses in (x.0 ∙ sym (read_fine f _ _ g.fine), x.1 ∙ sym (read_fine f _ _ g.fine))
@@ -83,27 +84,26 @@ module _ (f : List ℕ) (n : ℕ) (v : Variables) (near index rows : List ℕ) (
 never : {A : Type 0} → ◌≡◌ {A = ℕ} 0 1 → A
 never z = absurd (omega arith)
 
-not_at : (t : Verdict) (values : List ℕ) (e p : ℕ) → refused_at e p ≡ replied_for t values → ⊥
-unfolding replied_for
-not_at Fine values e p q = never (cc)
-not_at (Not e' p') values e p q = never (cc)
+not_replied : (e : Refusal) (xs : List ℕ) → refusal_told e ≡ replied xs → ⊥
+not_replied (InFile x) xs q = never (cc)
+not_replied (InCall x) xs q = never (cc)
 
-alike : (t : Verdict) (xs ys : List ℕ) (e : ℕ) → refused e ≡ replied_for t xs → refused e ≡ replied_for t ys
+alike : (e : Refusal) (t : Test) (xs ys : List ℕ) → refusal_told e ≡ replied_for t xs → refusal_told e ≡ replied_for t ys
 unfolding replied_for
-alike Fine xs ys e q = never (cc)
-alike (Not e' p') xs ys e q = q
+alike e (Ok u) xs ys q = absurd (not_replied e xs q)
+alike e (Err x) xs ys q = q
 
-fine_told : (t : Verdict) (xs ys : List ℕ) → replied xs ≡ replied_for t ys → (t ≡ Fine) × (xs ≡ ys)
+fine_told : (t : Test) (xs ys : List ℕ) → replied xs ≡ replied_for t ys → (t ≡ Fine) × (xs ≡ ys)
 unfolding replied_for
-fine_told Fine xs ys q = (refl, cc)
-fine_told (Not e' p') xs ys q = never (cc)
+fine_told (Ok u) xs ys q = (refl, cc)
+fine_told (Err x) xs ys q = never (cc)
 
-by_file : {A : Type 0} (f : List ℕ) → ((e p : ℕ) → verdict_of f ≡ Not e p → A) → (verdict_of f ≡ Fine → A) → A
+by_file : {A : Type 0} (f : List ℕ) → ((e : Fault) → verdict_of f ≡ Err e → A) → (verdict_of f ≡ Fine → A) → A
 by_file {A} f a b = go (verdict_of f) refl
   where
     go : (w : Verdict) → verdict_of f ≡ w → A
-    go Fine q = b q
-    go (Not e p) q = a e p q
+    go (Ok u) q = b q
+    go (Err e) q = a e q
 
 -- A text of k bytes was written.
 pub record Wrote (f : List ℕ) (room k : ℕ) : Type 0 where
@@ -120,25 +120,20 @@ module _ (f : List ℕ) (room : ℕ) where
   unfolding judge_formula_told
   judge_fine fine = read_fine f _ _ fine
 
-  judge_not : (e p : ℕ) → verdict_of f ≡ Not e p → judge_formula_told f room ≡ refused_at e p
+  judge_not : (e : Fault) → verdict_of f ≡ Err e → judge_formula_told f room ≡ fault_told e
   unfolding judge_formula_told
-  judge_not e p q = read_refused f _ _ e p q
+  judge_not e q = read_refused f _ _ e q
 
   -- Judging refuses as writing does.
-  pub judge_refused_at : (e p : ℕ) → refused_at e p ≡ formula_told f room → refused_at e p ≡ judge_formula_told f room
-  unfolding formula_reply
-  judge_refused_at e p h =
-      by_file f (λ e' p' q. h ∙ sym (refused-told f e' p' q room) ∙ sym (judge_not e' p' q)) (λ fine. absurd (not_at _ _ e p (h ∙ told_fine fine)))
-
-  pub judge_refused : (e : ℕ) → refused e ≡ formula_told f room → refused e ≡ judge_formula_told f room
+  pub judge_refuses : (e : Refusal) → refusal_told e ≡ formula_told f room → refusal_told e ≡ judge_formula_told f room
   unfolding formula_reply judge_formula_reply
-  judge_refused e h =
-      by_file f (λ e' p' q. never (let z = h ∙ sym (refused-told f e' p' q room) in cc)) (λ fine. alike _ _ _ e (h ∙ told_fine fine) ∙ sym (judge_fine fine))
+  judge_refuses e h =
+      by_file f (λ x q. h ∙ sym (refused-told f x q room) ∙ sym (judge_not x q)) (λ fine. alike e _ _ _ (h ∙ told_fine fine) ∙ sym (judge_fine fine))
 
   pub wrote : (k : ℕ) → replied (k ∷ []) ≡ formula_told f room → Wrote f room k
   unfolding formula_reply
   wrote k h =
-      by_file f (λ e' p' q. never (let z = h ∙ sym (refused-told f e' p' q room) in cc))
+      by_file f (λ x q. never (let z = h ∙ sym (refused-told f x q room) in cc))
       (λ fine. let r = fine_told _ _ _ (h ∙ told_fine fine) in record { fine = fine; size = (let s = r.1 in cc); test = r.0 })
 
 -- ---- the text judged
@@ -174,12 +169,12 @@ module _ (f buf buf' : List ℕ) (k : ℕ) (w : Wrote f (length buf) k) (left : 
 
   fits : length text ≤ length buf
   unfolding formula_test text_test
-  fits = leb→le (length text) (length buf) (true_holds (need_fine _ 12 0 w.test))
+  fits = leb→le (length text) (length buf) (true_holds (need_fine _ _ w.test))
 
   stands : buf' ≡ text ++ drop (length text) buf
   unfolding formula_left formula_buffer list_for
   stands =
-      left ∙ read_fine f _ _ w.fine ∙ ap {B = List ℕ} (λ (t : Verdict). list_for t (stored buf 0 text) buf) w.test
+      left ∙ read_fine f _ _ w.fine ∙ ap {B = List ℕ} (λ (t : Test). list_for t (stored buf 0 text) buf) w.test
       ∙ stored-start text buf fits
 
   -- The text stands at the front of the buffer.
@@ -194,6 +189,6 @@ module _ (f buf buf' : List ℕ) (k : ℕ) (w : Wrote f (length buf) k) (left : 
   unfolding judge_formula_reply
   judge_told_lem r h =
       let e = text-judged (ordinary_of f w.fine) size-some size_most (take k buf') front r h in
-      reply_told Fine (formula_test (ordinary_of f w.fine) (length buf)) _ (cond (verdict (ordinary_of f w.fine) []) 1 0 ∷ length text ∷ []) refl (sym w.test)
+      reply_told (formula_test (ordinary_of f w.fine) (length buf)) (cond (verdict (ordinary_of f w.fine) []) 1 0 ∷ length text ∷ []) refl w.test
       (ap (λ (b : Bool). cond b 1 0 ∷ k ∷ []) e ∙ ap (λ (j : ℕ). cond (verdict (ordinary_of f w.fine) []) 1 0 ∷ j ∷ []) w.size)
       ∙ sym (judge_fine f (length buf) w.fine)

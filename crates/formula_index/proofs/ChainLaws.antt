@@ -3,13 +3,13 @@ use Prim.Native.Nat.{ℕ, zero, suc, ◌+◌, ◌*◌, ◌%◌, ◌≤◌, ◌<�
 use mathlib.Core.Path.{◌≡◌, refl, sym, ap, ◌∙◌}
 use mathlib.Core.List.{List, [], ◌∷◌, ◌++◌}
 use borrow.Author.Tests.{eq-eqb, ne_eqb}
-use lib.ListN.{length, get_or, set, replicate, length-set, length-replicate, get_or-replicate}
+use lib.ListN.{length, get_or, set, replicate, length-set, length-replicate, get_or-replicate, get_or-eq_default}
 use lib.Seq.{get_or-set_same, get_or-set_other}
 use native.Mathlib.Numerals.{add-one}
 use native.Mathlib.Omega.{arith}
 use Rattle.formula.specs.Text.{literals_at, end_at, clauses_at}
 use Rattle.buffer.specs.Stored.{joined}
-use Rattle.mask.proofs.Logic.{by_eq}
+use Rattle.mask.proofs.Logic.{by_eq, by_lt}
 use Rattle.formula_index.specs.Chains.{last_from, place_of, last_of, start_to, next_to, head_to, before}
 
 -- The first k clauses are read: q is the place behind them, and these are the arrays.
@@ -38,10 +38,6 @@ module _ {t : List ℕ} {most p : ℕ} {start₀ next₀ head₀ : List ℕ} whe
         heads = rw (add-one, e.0, r.heads, r.place);
       }
 
-  pub chained_all : {start next head : List ℕ} {q k c : ℕ} → Chained t most p start₀ next₀ head₀ start next head q k → k ≡ c
-      → (start ≡ start_to t most p start₀ c) × ((next ≡ next_to t most p next₀ head₀ c) × (head ≡ head_to t most p head₀ c))
-  chained_all r e = rw (← e) (r.starts, (r.nexts, r.heads))
-
 -- ---- the clauses as a list
 
 place_on : (t : List ℕ) (most p k : ℕ) → place_of t most (end_at t most p) k ≡ place_of t most p (suc k)
@@ -60,6 +56,16 @@ clauses_listed t most p zero = refl
 clauses_listed t most p (suc c) = rw (clauses_last, clauses_listed t most p c)
 
 -- ---- what the arrays hold
+
+zeros : (n v : ℕ) → get_or {A = ℕ} (replicate n 0) v 0 ≡ 0
+zeros n v = by_lt v n (get_or-replicate n v 0 0) (λ h. get_or-eq_default (replicate n 0) 0 (rw length-replicate h))
+
+set_most : (l : List ℕ) (i v x most : ℕ) → x ≤ most → get_or l v 0 ≤ most → get_or (set l i x) v 0 ≤ most
+set_most [] i v x most h g = g
+set_most (y ∷ l) zero zero x most h g = h
+set_most (y ∷ l) zero (suc v) x most h g = g
+set_most (y ∷ l) (suc i) zero x most h g = g
+set_most (y ∷ l) (suc i) (suc v) x most h g = set_most l i v x most h g
 
 module _ (t : List ℕ) (most p : ℕ) where
   pub last_small : (k : ℕ) → last_of t most p k < 513
@@ -127,3 +133,17 @@ module _ (t : List ℕ) (most p : ℕ) where
   pub next-before : (c k : ℕ) → k < c → c ≤ 127008
       → get_or (next_to t most p (replicate 127008 0) (replicate 513 0) c) k 0 ≡ before (last_of t most p) k (last_of t most p k)
   next-before c k = next_zeros 127008 513 c k refl
+
+  -- Chains go down, and begin among the clauses.
+  pub head_most : (n c v : ℕ) → get_or (head_to t most p (replicate n 0) c) v 0 ≤ c
+  unfolding head_to
+  head_most n zero v = let z = zeros n v in omega arith
+  head_most n (suc c) v = set_most (head_to t most p (replicate n 0) c) (last_of t most p c) v _ _ (omega arith) (let h = head_most n c v in omega arith)
+
+  pub next_falls : (n j c k : ℕ) → get_or (next_to t most p (replicate n 0) (replicate j 0) c) k 0 ≤ k
+  unfolding next_to
+  next_falls n j zero k = let z = zeros n k in omega arith
+  next_falls n j (suc c) k =
+      by_eq k c
+      (λ e. rw e (set_most (next_to t most p (replicate n 0) (replicate j 0) c) c c _ _ (head_most j c (last_of t most p c)) (next_falls n j c c)))
+      (λ d. rw (get_or-set_other (next_to t most p (replicate n 0) (replicate j 0) c) c k _ 0 d) (next_falls n j c k))

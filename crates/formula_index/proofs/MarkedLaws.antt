@@ -10,7 +10,8 @@ use lib.Seq.{get_or-set_same, get_or-set_other}
 use native.Mathlib.Nat.{sub-zero}
 use native.Mathlib.Omega.{arith}
 use Rattle.mask.proofs.Logic.{holds, and_out}
-use Rattle.formula.specs.Formula.{Quantified}
+use Rattle.std.specs.Int.{from_bool}
+use Rattle.formula.specs.Formula.{Literal, Quantified}
 use Rattle.formula.specs.Ordered.{counting}
 use Rattle.formula.specs.Text.{literals_at, end_at, is_letter, quantified, blocks_at, blocks_end}
 use Rattle.formula_index.specs.Marked.{marked, ranked}
@@ -19,6 +20,16 @@ pub marked_append : (l : List ℕ) (xs ys : List Quantified) → marked l (xs ++
 unfolding marked
 marked_append l [] ys = refl
 marked_append l (q ∷ xs) ys = marked_append (set l (q.boolean % 513) (cond q.universal 1 0)) xs ys
+
+-- One boolean more of a line of side u.
+from_side : (u : Bool) → from_bool u ≡ cond u 1 0
+from_side true = refl
+from_side false = refl
+
+pub marked_next : (l : List ℕ) (q : Literal) {x side : ℕ} (u : Bool) (ls : List Literal) → side ≡ from_bool u → q.boolean ≡ x
+    → marked l (quantified u (q ∷ ls)) ≡ marked (set l (x % 513) side) (quantified u ls)
+unfolding marked quantified
+marked_next l q u ls e f = rw (e, from_side u, f)
 
 -- ---- lines one after another
 

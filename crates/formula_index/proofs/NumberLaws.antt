@@ -1,9 +1,9 @@
 -- A number read digit by digit.
 use Prim.Native.Nat.{ℕ, ◌+◌, ◌-◌, ◌*◌, ◌^◌, ◌≤◌, ◌<◌}
 use mathlib.Core.Path.{◌≡◌, refl, sym, ap, ◌∙◌}
-use mathlib.Core.Bool.{Bool, true, false, cond, not}
+use mathlib.Core.Bool.{true, false, not}
 use mathlib.Core.List.{List}
-use lib.Dec.{eqb, leb}
+use lib.Dec.{leb}
 use lib.ListN.{get_or}
 use borrow.Author.Count.{below_none, below_more}
 use borrow.Author.Tests.{leb-true}
@@ -12,8 +12,7 @@ use native.Mathlib.Numerals.{add-one}
 use native.Mathlib.Omega.{arith}
 use Rattle.mask.proofs.Logic.{true_holds, holds, and_out}
 use Rattle.mask.proofs.Range.{first_is, first_none}
-use Rattle.formula.specs.Text.{is_digit, digits_at, value_to, number_at, after, negative, number_from}
-use Rattle.formula_index.specs.Reading.{Reads}
+use Rattle.formula.specs.Text.{is_digit, digits_at, value_to, number_at, after}
 
 -- The first k bytes from p on are digits, and x is the number that they make.
 pub record Passed (t : List ℕ) (p k x : ℕ) : Type 0 where
@@ -54,34 +53,8 @@ passed-stop {t} {p} {k} r h e d =
     number_by r
     (first_is 9 (λ j. not (is_digit (get_or t (p + j) 0))) k h (true_holds (ap not (ap is_digit (sym e) ∙ d))) (λ j l. ap not (r.digits j l)))
 
-pub passed_all : {t : List ℕ} {p k x : ℕ} → Passed t p k x → k ≡ 9 → (x ≡ number_at t p) × (p + 9 + 1 ≡ after t p)
+pub passed_all : {t : List ℕ} {p k x : ℕ} → Passed t p k x → k ≡ 9 → (x ≡ number_at t p) × (p + 10 ≡ after t p)
 unfolding digits_at
 passed_all {t} {p} r e =
-    rw e at (number_by r (first_none 9 (λ j. not (is_digit (get_or t (p + j) 0))) (λ j l. ap not (r.digits j (omega arith))) ∙ sym e))
-
--- A literal: its number begins behind the minus, where there is one.
-pub from_minus : (t : List ℕ) (p : ℕ) {b : ℕ} → b ≡ get_or t p 0 → eqb b 45 ≡ true → p + 1 ≡ number_from t p
-unfolding number_from negative
-from_minus t p e h = rw (← e, h)
-
-pub from_plain : (t : List ℕ) (p : ℕ) {b : ℕ} → b ≡ get_or t p 0 → eqb b 45 ≡ false → p ≡ number_from t p
-unfolding number_from negative
-from_plain t p e h = rw (← e, h)
-
-from_near : (t : List ℕ) (p : ℕ) → number_from t p ≤ p + 1
-unfolding number_from
-from_near t p = go (negative t p)
-  where
-    go : (b : Bool) → cond b (p + 1) p ≤ p + 1
-    go true = omega arith
-    go false = omega arith
-
-pub literal_read : {t : List ℕ} {p b f x a : ℕ} → b ≡ get_or t p 0 → f ≡ number_from t p → (x ≡ number_at t f) × (a ≡ after t f) → a ≤ f + 10
-    → Reads t p record { negative = eqb b 45; boolean = x; after = a }
-unfolding negative
-literal_read {t} {p} e g n h = record {
-  sign = rw e;
-  number = rw (← g) n.0;
-  behind = rw (← g) n.1;
-  near = let l = from_near t p in omega arith;
-}
+    let w = number_by r (first_none 9 (λ j. not (is_digit (get_or t (p + j) 0))) (λ j l. ap not (r.digits j (omega arith))) ∙ sym e) in
+    (w.0, omega arith)

@@ -3,7 +3,7 @@ ghost use Rattle.std.specs.Prelude.{◌≡◌, ◌+◌, ◌*◌, ◌≤◌, ◌^
 ghost use Rattle.formula.specs.Text.{literals_at, end_at};
 ghost use Rattle.formula_index.specs.Chains.{last_from, start_to, next_to, head_to};
 
-use crate::reading::literal_at;
+use crate::line::Line;
 use crate::{CLAUSES, PLACES};
 
 // The last boolean of a clause, 0 where it has none, and the place behind it.
@@ -18,29 +18,19 @@ fn clause_at(t: &[u8], p: usize, most: usize) -> Clause
     ensures last_value { (result.last ≡ last_from 0 (literals_at t.now most p)) × (result.after ≡ end_at t.now most p) }
     ensures after_bound { result.after ≤ p + 11 * most }
 {
-    let mut q = p;
+    let mut line = Line::at(t, p, most);
     let mut last = 0;
-    let mut k = 0;
-    while k < most {
-        let x = literal_at(t, q);
-        q = x.after;
-        if x.boolean == 0 {
-            return Clause {
-                last: last,
-                after: q,
-            };
-        }
+    while let Some(x) = line.next() {
         last = x.boolean;
-        k += 1;
     }
     Clause {
-        last: last,
-        after: q,
+        last,
+        after: line.place,
     }
 }
 
 // Of each of the first c clauses: where it begins, and which one before it has the same last boolean; of each boolean the last clause that
-// ends with it. A clause is told by its number plus one, none by 0.
+// ends with it. A clause is told by its number plus one, none by 0 (an `Option` would double the arrays).
 pub fn read_clauses(
     t: &[u8],
     p: usize,
@@ -56,14 +46,12 @@ pub fn read_clauses(
     ensures head_after { head.new ≡ head_to t.now most p head.old c }
 {
     let mut q = p;
-    let mut k = 0;
-    while k < c {
+    for k in 0..c {
         let x = clause_at(t, q, most);
         let last = x.last % PLACES;
         start[k] = q as u32;
         next[k] = head[last];
         head[last] = (k + 1) as u32;
         q = x.after;
-        k += 1;
     }
 }

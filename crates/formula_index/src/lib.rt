@@ -3,12 +3,14 @@
 #![tactic(auto)]
 
 mod chains;
+mod line;
 mod prefix;
 mod reading;
 
 pub use chains::read_clauses;
+pub use line::{Line, Literal};
 pub use prefix::read_prefix;
-pub use reading::{Number, Read, literal_at, number_at};
+pub use reading::{Number, number_at};
 
 // Booleans are numbered 1 to 512.
 pub const PLACES: usize = 513;

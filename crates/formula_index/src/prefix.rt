@@ -1,21 +1,16 @@
 // The lines of the prefix: the side of each boolean, 1 for universal.
-ghost use Rattle.std.specs.Prelude.{◌≡◌, cond, ◌+◌, ◌*◌, ◌≤◌, ◌^◌};
+ghost use Rattle.std.specs.Prelude.{◌≡◌, ◌+◌, ◌*◌, ◌≤◌, ◌^◌};
 ghost use Rattle.formula.specs.Text.{literals_at, end_at, is_letter, quantified, blocks_at, blocks_end};
 ghost use Rattle.formula_index.specs.Marked.{marked};
 
 use crate::PLACES;
-use crate::reading::{byte_at, literal_at};
+use crate::line::Line;
+use crate::reading::byte_at;
 
-fn side_of(universal: bool) -> u8
-    ensures { result ≡ cond universal 1 0 }
-{
-    if universal { 1 } else { 0 }
-}
-
-fn is_letter(b: usize) -> bool
+fn is_letter(b: u8) -> bool
     ensures { result ≡ is_letter b }
 {
-    if b == 97 { true } else { b == 101 }
+    b == b'a' || b == b'e'
 }
 
 // The booleans of a line get this side; replies the place behind it.
@@ -24,19 +19,11 @@ fn read_line(t: &[u8], p: usize, most: usize, universal: bool, sides: &mut [u8; 
     ensures value { (result ≡ end_at t.now most p) × (result ≤ p + 11 * most) }
     ensures sides_after { sides.new ≡ marked sides.old (quantified universal (literals_at t.now most p)) }
 {
-    let side = side_of(universal);
-    let mut q = p;
-    let mut k = 0;
-    while k < most {
-        let x = literal_at(t, q);
-        q = x.after;
-        if x.boolean == 0 {
-            return q;
-        }
-        sides[x.boolean % PLACES] = side;
-        k += 1;
+    let mut line = Line::at(t, p, most);
+    while let Some(x) = line.next() {
+        sides[x.boolean % PLACES] = u8::from(universal);
     }
-    q
+    line.place
 }
 
 // The lines that begin with a letter, no more than `most`.
@@ -46,15 +33,12 @@ pub fn read_prefix(t: &[u8], p: usize, most: usize, sides: &mut [u8; PLACES]) ->
     ensures sides_after { sides.new ≡ marked sides.old (blocks_at t.now most most p) }
 {
     let mut q = p;
-    let mut k = 0;
-    while k < most {
+    for _ in 0..most {
         let b = byte_at(t, q);
-        if is_letter(b) {
-            q = read_line(t, q + 2, most, b == 97, sides);
-        } else {
+        if !is_letter(b) {
             return q;
         }
-        k += 1;
+        q = read_line(t, q + 2, most, b == b'a', sides);
     }
     q
 }

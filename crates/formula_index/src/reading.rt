@@ -1,7 +1,6 @@
-// Numbers and literals at a place of the text.
+// Numbers at a place of the text.
 ghost use Rattle.std.specs.Prelude.{◌≡◌, ◌+◌, ◌≤◌, ◌<◌, ◌^◌, get_or};
-ghost use Rattle.formula.specs.Text.{is_digit, number_at, after};
-ghost use Rattle.formula_index.specs.Reading.{Reads};
+ghost use Rattle.formula.specs.Text.{number_at, after};
 
 // A number, and the place behind it and the one byte that parts it from what follows.
 #[derive(Clone, Copy)]
@@ -10,24 +9,10 @@ pub struct Number {
     pub after: usize,
 }
 
-// A literal, with boolean 0 where a line ends, and the place behind it and one byte more.
-#[derive(Clone, Copy)]
-pub struct Read {
-    pub negative: bool,
-    pub boolean: usize,
-    pub after: usize,
-}
-
-pub fn byte_at(t: &[u8], p: usize) -> usize
-    ensures { (result ≡ get_or t.now p 0) × (result < 256) }
+pub fn byte_at(t: &[u8], p: usize) -> u8
+    ensures { result ≡ get_or t.now p 0 }
 {
-    if p < t.len() { t[p] as usize } else { 0 }
-}
-
-fn is_digit(b: usize) -> bool
-    ensures { result ≡ is_digit b }
-{
-    if b < 48 { false } else { b <= 57 }
+    t.get(p).copied().unwrap_or(0)
 }
 
 // A number of up to nine digits.
@@ -37,35 +22,18 @@ pub fn number_at(t: &[u8], p: usize) -> Number
     ensures value_bound { (result.value < 10 ^ 9) × (result.after ≤ p + 10) }
 {
     let mut value = 0;
-    let mut k = 0;
-    while k < 9 {
+    for k in 0..9 {
         let b = byte_at(t, p + k);
-        if is_digit(b) {
-            value = 10 * value + (b - 48);
-            k += 1;
-        } else {
+        if !b.is_ascii_digit() {
             return Number {
-                value: value,
+                value,
                 after: p + k + 1,
             };
         }
+        value = 10 * value + (b as usize - 48);
     }
     Number {
-        value: value,
-        after: p + 9 + 1,
-    }
-}
-
-pub fn literal_at(t: &[u8], p: usize) -> Read
-    requires { p ≤ 2 ^ 60 }
-    ensures { Reads t.now p result }
-{
-    let negative = byte_at(t, p) == 45;
-    let from = if negative { p + 1 } else { p };
-    let x = number_at(t, from);
-    Read {
-        negative: negative,
-        boolean: x.value,
-        after: x.after,
+        value,
+        after: p + 10,
     }
 }

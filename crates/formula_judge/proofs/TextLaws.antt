@@ -18,10 +18,10 @@ use Rattle.formula_theory.proofs.JoinedLaws.{one_each}
 use Rattle.formula_index.specs.Chains.{last_from, before, place_of, last_of, start_to, next_to, head_to}
 use Rattle.formula_index.specs.Marked.{marked, ranked}
 use Rattle.formula_index.specs.declared.reading.Number.{Number}
-use Rattle.formula_index.proofs.ChainLaws.{clauses_listed, start-place, head_before, next-before}
+use Rattle.formula_index.proofs.ChainLaws.{clauses_listed, start-place, head_before, next-before, head_most, next_falls}
 use Rattle.formula_index.proofs.MarkedLaws.{marked-ranked}
 use Rattle.formula_judge.specs.Judgeable.{Judgeable}
-use Rattle.formula_judge.specs.Rest.{values_in, Links, Linked, clause_at, Formed, Rest}
+use Rattle.formula_judge.specs.Rest.{values_in, Links, clause_at, Formed, Rest}
 use Rattle.formula_judge.proofs.JudgeLaws.{last_most, last_none, judged-agree, won_holds}
 use Rattle.formula_judge.proofs.WalkLaws.{before-some, before_none}
 
@@ -78,7 +78,7 @@ indexed {t} {v} {c} {count} a b e f g s x y z =
     }
 
 module _ {t : List ℕ} {count n q : ℕ} {start next head sides : List ℕ} (I : Indexed t count n q start next head sides) where
-  -- Of any text: its chains link.
+  -- Of any text: its chains link, and go down.
   links_by : Links (last_of t (suc count) q) n next head
   links_by =
       let m : n ≤ 127008 = let e = I.clauses in omega arith in record {
@@ -87,8 +87,11 @@ module _ {t : List ℕ} {count n q : ℕ} {start next head sides : List ℕ} (I 
         head = λ v h. rw I.heads (head_before t (suc count) q n v h);
       }
 
-  pub linked_by : Linked next head
-  linked_by = record { last = last_of t (suc count) q; count = n; links = links_by }
+  pub inside_by : (v : ℕ) → get_or head v 0 ≤ 127008
+  inside_by v = let e = I.clauses in let h = head_most t (suc count) q 513 n v in rw I.heads (omega arith)
+
+  pub falls_by : (k : ℕ) → get_or next k 0 ≤ k
+  falls_by k = rw I.nexts (next_falls t (suc count) q 127008 513 n k)
 
   module _ (J : Judgeable t) where
     all_booleans : count ≡ number_at t 6

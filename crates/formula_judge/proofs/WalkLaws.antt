@@ -10,9 +10,8 @@ use borrow.Author.Tests.{eqb-true, eqb-false, eq-eqb}
 use Rattle.mask.specs.Range.{each}
 use Rattle.mask.proofs.Logic.{by_eq}
 use Rattle.formula.specs.Formula.{clause_holds}
-use Rattle.formula.specs.Text.{literals_at}
 use Rattle.formula_index.specs.Chains.{before}
-use Rattle.formula_judge.specs.Rest.{values_in, Links, Linked, clause_at, hold_at}
+use Rattle.formula_judge.specs.Rest.{values_in, Links, clause_at, hold_at}
 
 -- The last of the first k clauses that ends with v.
 module _ (last : ℕ → ℕ) (v : ℕ) where
@@ -87,9 +86,6 @@ module _ (t start next head : List ℕ) (most v : ℕ) (values : List ℕ) where
         rest = rw q (before-each last v (λ k. clause_holds (values_in values) (clause_at t start most k)) c);
       }
 
-  pub walk_inside : {x : ℕ} → Walk x → Linked next head → x ≤ 127008
-  walk_inside W L = let i = (W L.last L.count L.links).inside in let m = L.links.most in omega arith
-
   module _ (x y : ℕ) (W : Walk x) (e : x ≡ suc y) where
     walk_one : (last : ℕ → ℕ) (c : ℕ) → Links last c next head
         → (y < c) × (last y ≡ v) × (hold_at t start most last c v values ≡ (clause_holds (values_in values) (clause_at t start most y) && hold_at t start most last y v values))
@@ -100,17 +96,10 @@ module _ (t start next head : List ℕ) (most v : ℕ) (values : List ℕ) where
         let q : last y ≡ v = before_ends last v y (rw (← e) w.ends) in
         (omega arith, q, (rw e at w.rest) ∙ rw (eq-eqb (last y) v q) refl)
 
-    pub walk_falls : (z : ℕ) → z ≡ get_or next y 0 → Linked next head → z < x
-    walk_falls z n L =
-        let o = walk_one L.last L.count L.links in
-        let q : z ≡ before L.last y (L.last y) = n ∙ L.links.next y o.0 in
-        let m = before_most L.last (L.last y) y in omega arith
-
-    -- The clause before x begins at p and holds, and the walk goes on; or it is false.
-    module _ {p : ℕ} {r : Bool} (a : p ≡ get_or start y 0) (w : r ≡ clause_holds (values_in values) (literals_at t most p)) where
+    -- The clause before x holds, and the walk goes on; or it is false.
+    module _ {r : Bool} (w : r ≡ clause_holds (values_in values) (clause_at t start most y)) where
       walk_then : (last : ℕ → ℕ) (c : ℕ) → Links last c next head → hold_at t start most last c v values ≡ (r && hold_at t start most last y v values)
-      unfolding clause_at
-      walk_then last c L = rw w (rw a (walk_one last c L).2)
+      walk_then last c L = rw w (walk_one last c L).2
 
       pub walk_next : (z : ℕ) → r ≡ true → z ≡ get_or next y 0 → Walk z
       unfolding hold_at

@@ -18,12 +18,6 @@ pub record Links (last : ℕ → ℕ) (c : ℕ) (nexts heads : List ℕ) : Type 
   pub next : (k : ℕ) → k < c → get_or nexts k 0 ≡ before last k (last k)
   pub head : (v : ℕ) → v < 513 → get_or heads v 0 ≡ before last c v
 
--- They chain some clauses: what a walk along them needs to stay inside and to end.
-pub record Linked (next head : List ℕ) : Type 0 where
-  pub last : ℕ → ℕ
-  pub count : ℕ
-  pub links : Links last count next head
-
 -- Clause k, as it stands in the text; lines have fewer than `most` literals.
 unfoldable pub clause_at : List ℕ → List ℕ → ℕ → ℕ → List Literal
 clause_at t start most k = literals_at t most (get_or start k 0)

@@ -19,7 +19,7 @@ use Rattle.formula.specs.Encoding.{size, place, base, boolean_of, ways, stands, 
 use Rattle.formula.proofs.OnlyLaws.{joined-ways, only_in, only_out, only_same}
 use Rattle.formula_theory.proofs.Widths.{ways-twice}
 use Rattle.formula_theory.proofs.Chosen.{place-size}
-use Rattle.solver_arrays.specs.declared.Variables.{Variables}
+use Rattle.solver_arrays.specs.declared.arrays.Arrays.{Arrays}
 use Rattle.solver_arrays.specs.Arrays.{row_in, Poses}
 use Rattle.formula_words.specs.declared.coded.Coded.{Coded}
 use Rattle.formula_words.specs.Coding.{coded_in}
@@ -96,44 +96,44 @@ module _ (P : Problem) where
   unfolding positives fresh joined
   closing_is = rw add-zero
 
-module _ (P : Problem) (v : Variables) (near index rows : List ℕ) (S : Poses P v near index rows) where
-  constraint_is : (i j : ℕ) → i < v.n → j < v.n → constraint_of index rows i (coded_in v i) j (coded_in v j) ≡ constraint_clauses P i j
+module _ (P : Problem) (A : Arrays) (S : Poses P A) where
+  constraint_is : (i j : ℕ) → i < A.n → j < A.n → constraint_of A i (coded_in A i) j (coded_in A j) ≡ constraint_clauses P i j
   unfolding constraint_of constraint_clauses
   constraint_is i j hi hj =
-      ap₂ (λ x y. joined (λ a. value_of x a y (row_in index rows i a j)) 16) (coded_is P v near index rows S i hi) (coded_is P v near index rows S j hj)
-      ∙ joined_same (λ a. value_of (code_of P i) a (code_of P j) (row_in index rows i a j)) (λ a. joined (λ b. only_if (clash P i a j b) (clash_clauses P i a j b)) 16) 16
-      (λ a h. value_is P i a j (row_in index rows i a j) (omega (arith, S.states.size)) h (omega (arith, S.states.size)) (λ b hb. S.states.row i a j b hi h hj hb))
+      ap₂ (λ x y. joined (λ a. value_of x a y (row_in A i a j)) 16) (coded_is P A S i hi) (coded_is P A S j hj)
+      ∙ joined_same (λ a. value_of (code_of P i) a (code_of P j) (row_in A i a j)) (λ a. joined (λ b. only_if (clash P i a j b) (clash_clauses P i a j b)) 16) 16
+      (λ a h. value_is P i a j (row_in A i a j) (omega (arith, S.states.size)) h (omega (arith, S.states.size)) (λ b hb. S.states.row i a j b hi h hj hb))
 
-  pair_is : (i j : ℕ) → i < v.n → j < v.n → pair_of near index rows v i j ≡ only_if (ltb i j && P.constrained i j) (constraint_clauses P i j)
+  pair_is : (i j : ℕ) → i < A.n → j < A.n → pair_of A i j ≡ only_if (ltb i j && P.constrained i j) (constraint_clauses P i j)
   unfolding pair_of
   pair_is i j hi hj = ap₂ (λ b xs. only_if (ltb i j && b) xs) (sym (S.states.joined i j hi hj)) (constraint_is i j hi hj)
 
-  later_is : (i : ℕ) → i < v.n → later_of near index rows v i ≡ joined (λ j. only_if (ltb i j && P.constrained i j) (constraint_clauses P i j)) v.n
+  later_is : (i : ℕ) → i < A.n → later_of A i ≡ joined (λ j. only_if (ltb i j && P.constrained i j) (constraint_clauses P i j)) A.n
   unfolding later_of
-  later_is i hi = joined_same (pair_of near index rows v i) (λ j. only_if (ltb i j && P.constrained i j) (constraint_clauses P i j)) v.n (λ j hj. pair_is i j hi hj)
+  later_is i hi = joined_same (pair_of A i) (λ j. only_if (ltb i j && P.constrained i j) (constraint_clauses P i j)) A.n (λ j hj. pair_is i j hi hj)
 
-  constraints_are : constraints_of near index rows v ≡ pair_clauses P
+  constraints_are : constraints_of A ≡ pair_clauses P
   unfolding constraints_of pair_clauses
   constraints_are =
-      joined_same (later_of near index rows v) (λ i. joined (λ j. only_if (ltb i j && P.constrained i j) (constraint_clauses P i j)) v.n) v.n later_is
+      joined_same (later_of A) (λ i. joined (λ j. only_if (ltb i j && P.constrained i j) (constraint_clauses P i j)) A.n) A.n later_is
       ∙ ap (λ k. joined (λ i. joined (λ j. only_if (ltb i j && P.constrained i j) (constraint_clauses P i j)) k) k) (sym S.states.size)
 
-  existential_is : (i : ℕ) → i < v.n → existential_of v i ≡ only_if (not (P.universal i)) (at_least_one P i ∷ [])
+  existential_is : (i : ℕ) → i < A.n → existential_of A i ≡ only_if (not (P.universal i)) (at_least_one P i ∷ [])
   unfolding existential_of code_of
   existential_is i h =
-      ap₂ (λ b (x : Coded). only_if (not b) (positives x.base x.size ∷ [])) (side_is P v near index rows S i h) (coded_is P v near index rows S i h)
+      ap₂ (λ b (x : Coded). only_if (not b) (positives x.base x.size ∷ [])) (side_is P A S i h) (coded_is P A S i h)
       ∙ ap (λ (c : List Literal). only_if (not (P.universal i)) (c ∷ [])) (some_is P i)
 
-  existentials_are : existentials_of v ≡ existential_clauses P
+  existentials_are : existentials_of A ≡ existential_clauses P
   unfolding existentials_of existential_clauses
   existentials_are =
-      joined_same (existential_of v) (λ i. only_if (not (P.universal i)) (at_least_one P i ∷ [])) v.n existential_is
+      joined_same (existential_of A) (λ i. only_if (not (P.universal i)) (at_least_one P i ∷ [])) A.n existential_is
       ∙ ap (joined (λ i. only_if (not (P.universal i)) (at_least_one P i ∷ []))) (sym S.states.size)
 
   -- All clauses.
-  pub clauses_are : 0 < v.n → clauses_in near index rows v ≡ (formula_of P).clauses
+  pub clauses_are : 0 < A.n → clauses_in A ≡ (formula_of P).clauses
   unfolding clauses_in formula_of closing_clauses
   clauses_are some =
       ap₂ (λ xs ys. xs ++ ys) (ap₂ (λ xs ys. xs ++ ys) existentials_are constraints_are)
-      (ap₂ (λ b k. only_if b (positives k 1 ∷ [])) (closes_is P v near index rows S some) (all_is P v near index rows S)
+      (ap₂ (λ b k. only_if b (positives k 1 ∷ [])) (closes_is P A S some) (all_is P A S)
       ∙ ap (λ (c : List Literal). only_if (closes P) (c ∷ [])) (closing_is P))

@@ -1,7 +1,6 @@
 -- What is coded of a variable, for the problem that the arrays state.
 use mathlib.Core.Path.{◌≡◌, refl, sym, ap, ap₂, ◌∙◌}
 use mathlib.Core.Bool.{Bool}
-use mathlib.Core.List.{List}
 use Prim.Native.Nat.{ℕ, zero, suc, ◌+◌, ◌-◌, ◌≤◌, ◌<◌}
 use native.Mathlib.Omega.{arith}
 use lib.ListN.{get_or}
@@ -10,7 +9,7 @@ use Rattle.mask.specs.Mask.{bit}
 use Rattle.game.specs.Problem.{Problem}
 use Rattle.game.specs.Lists.{domains}
 use Rattle.formula.specs.Encoding.{width_for, ways_for, size, width, base, ways, closes}
-use Rattle.solver_arrays.specs.declared.Variables.{Variables}
+use Rattle.solver_arrays.specs.declared.arrays.Arrays.{Arrays}
 use Rattle.solver_arrays.specs.Arrays.{Poses}
 use Rattle.solver_arrays.proofs.PosedLaws.{posed_domain}
 use Rattle.formula_words.specs.declared.coded.Coded.{Coded}
@@ -33,36 +32,36 @@ made : {u u' : Bool} {b b' s s' w w' c c' d d' : ℕ} → u ≡ u' → b ≡ b' 
     (record { universal = u'; base = b'; size = s'; width = w'; ways = c'; domain = d' })
 made p q r s t o = cc
 
-module _ (P : Problem) (v : Variables) (near index rows : List ℕ) (S : Poses P v near index rows) where
-  size_is : (i : ℕ) → i < v.n → size_in v.domains i ≡ size P i
+module _ (P : Problem) (A : Arrays) (S : Poses P A) where
+  size_is : (i : ℕ) → i < A.n → size_in A i ≡ size P i
   unfolding size_in size domains
-  size_is i h = ap (λ m. count 16 (bit m)) (sym (posed_domain P v near index rows S i h))
+  size_is i h = ap (λ m. count 16 (bit m)) (sym (posed_domain P A S i h))
 
-  pub side_is : (i : ℕ) → i < v.n → bit v.universal i ≡ P.universal i
+  pub side_is : (i : ℕ) → i < A.n → bit A.universal i ≡ P.universal i
   side_is i h = sym (S.states.side i h)
 
-  width_is : (i : ℕ) → i < v.n → width_for (bit v.universal i) (size_in v.domains i) ≡ width P i
+  width_is : (i : ℕ) → i < A.n → width_for (bit A.universal i) (size_in A i) ≡ width P i
   unfolding width
   width_is i h = ap₂ width_for (side_is i h) (size_is i h)
 
-  ways_is : (i : ℕ) → i < v.n → ways_for (bit v.universal i) (size_in v.domains i) ≡ ways P i
+  ways_is : (i : ℕ) → i < A.n → ways_for (bit A.universal i) (size_in A i) ≡ ways P i
   unfolding ways
   ways_is i h = ap₂ ways_for (side_is i h) (size_is i h)
 
-  base_is : (i : ℕ) → i ≤ v.n → base_in v.universal v.domains i ≡ base P i
+  base_is : (i : ℕ) → i ≤ A.n → base_in A i ≡ base P i
   unfolding base_in base
   base_is zero h = refl
   base_is (suc i) h = ap₂ (λ x y. x + y) (base_is i (omega arith)) (width_is i (omega arith))
 
-  pub coded_is : (i : ℕ) → i < v.n → coded_in v i ≡ code_of P i
+  pub coded_is : (i : ℕ) → i < A.n → coded_in A i ≡ code_of P i
   unfolding coded_in code_of
-  coded_is i h = made (side_is i h) (base_is i (omega arith)) (size_is i h) (width_is i h) (ways_is i h) (sym (posed_domain P v near index rows S i h))
+  coded_is i h = made (side_is i h) (base_is i (omega arith)) (size_is i h) (width_is i h) (ways_is i h) (sym (posed_domain P A S i h))
 
   -- How many booleans all variables become; whether the last is universal.
-  pub all_is : all_in v ≡ base P P.n
+  pub all_is : all_in A ≡ base P P.n
   unfolding all_in
-  all_is = base_is v.n (omega arith) ∙ ap (base P) (sym S.states.size)
+  all_is = base_is A.n (omega arith) ∙ ap (base P) (sym S.states.size)
 
-  pub closes_is : 0 < v.n → closes_in v ≡ closes P
+  pub closes_is : 0 < A.n → closes_in A ≡ closes P
   unfolding closes_in closes
-  closes_is h = side_is (v.n - 1) (omega arith) ∙ ap (λ k. P.universal (k - 1)) (sym S.states.size)
+  closes_is h = side_is (A.n - 1) (omega arith) ∙ ap (λ k. P.universal (k - 1)) (sym S.states.size)

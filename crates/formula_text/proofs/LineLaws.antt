@@ -12,7 +12,7 @@ use Rattle.buffer.specs.Stored.{joined}
 use Rattle.buffer.specs.Put.{Put}
 use Rattle.buffer.proofs.PutLaws.{put_behind, put-joined}
 use Rattle.formula.specs.Text.{line_end, letter, line_start}
-use Rattle.solver_arrays.specs.declared.Variables.{Variables}
+use Rattle.solver_arrays.specs.declared.arrays.Arrays.{Arrays}
 use Rattle.formula_words.specs.declared.coded.Coded.{Coded}
 use Rattle.formula_words.specs.Coding.{coded_in, Bounded}
 use Rattle.formula_words.specs.Words.{words_text}
@@ -20,8 +20,8 @@ use Rattle.formula_words.proofs.CodingLaws.{coded_bounded}
 use Rattle.formula_text.specs.Body.{turn_text, opening_text, block_text, blocks_text, closes_in, all_in, prefix_lines}
 
 -- The booleans of a variable are few.
-pub coded_few : (v : Variables) (i : ℕ) (x : Coded) → i ≤ 32 → x ≡ coded_in v i → x.base + x.width ≤ 1024
-coded_few v i x h e = let b : Bounded x = rw e (coded_bounded v i h) in omega arith
+pub coded_few : (A : Arrays) (i : ℕ) (x : Coded) → i ≤ 32 → x ≡ coded_in A i → x.base + x.width ≤ 1024
+coded_few A i x h e = let b : Bounded x = rw e (coded_bounded A i h) in omega arith
 
 module _ {l l' : List ℕ} {at r : ℕ} where
   -- How a line begins, by side.
@@ -58,24 +58,24 @@ module _ {l l' : List ℕ} {at r : ℕ} where
   open_next universal i u w t e f p = rw (ne_eqb i 0 t, ← e, ← f) p
 
   -- The booleans of a variable; those of one more.
-  pub block_put : {m : List ℕ} {e : ℕ} (v : Variables) (i : ℕ) (x : Coded) → x ≡ coded_in v i → Put l at (opening_text v.universal i) e m → Put m e (words_text x.base x.width) r l'
-      → Put l at (block_text v i) r l'
+  pub block_put : {m : List ℕ} {e : ℕ} (A : Arrays) (i : ℕ) (x : Coded) → x ≡ coded_in A i → Put l at (opening_text A.universal i) e m → Put m e (words_text x.base x.width) r l'
+      → Put l at (block_text A i) r l'
   unfolding block_text
-  block_put v i x z p q = rw (← z) (put_behind p q)
+  block_put A i x z p q = rw (← z) (put_behind p q)
 
-  pub blocks_more : {m : List ℕ} {e : ℕ} (v : Variables) (i : ℕ) → Put l at (joined (block_text v) i) e m → Put m e (block_text v i) r l' → Put l at (joined (block_text v) (i + 1)) r l'
-  blocks_more v i p q = rw add-one (put-joined (block_text v) i p q)
+  pub blocks_more : {m : List ℕ} {e : ℕ} (A : Arrays) (i : ℕ) → Put l at (joined (block_text A) i) e m → Put m e (block_text A i) r l' → Put l at (joined (block_text A) (i + 1)) r l'
+  blocks_more A i p q = rw add-one (put-joined (block_text A) i p q)
 
-  pub blocks_all : (v : Variables) (i : ℕ) → i ≡ v.n → Put l at (joined (block_text v) i) r l' → Put l at (blocks_text v) r l'
+  pub blocks_all : (A : Arrays) (i : ℕ) → i ≡ A.n → Put l at (joined (block_text A) i) r l' → Put l at (blocks_text A) r l'
   unfolding blocks_text
-  blocks_all v i e p = rw e at p
+  blocks_all A i e p = rw e at p
 
   -- The end of the lines, with the closing boolean and without.
-  pub prefix_closed : {m m' m'' : List ℕ} {e e' e'' : ℕ} (v : Variables) (c : Bool) (b : ℕ) → c ≡ closes_in v → c ≡ true → b ≡ all_in v → Put l at (blocks_text v) e m
-      → Put m e (turn_text true false) e' m' → Put m' e' (words_text b 1) e'' m'' → Put m'' e'' line_end r l' → Put l at (prefix_lines v) r l'
+  pub prefix_closed : {m m' m'' : List ℕ} {e e' e'' : ℕ} (A : Arrays) (c : Bool) (b : ℕ) → c ≡ closes_in A → c ≡ true → b ≡ all_in A → Put l at (blocks_text A) e m
+      → Put m e (turn_text true false) e' m' → Put m' e' (words_text b 1) e'' m'' → Put m'' e'' line_end r l' → Put l at (prefix_lines A) r l'
   unfolding prefix_lines
-  prefix_closed v c b f t z p q s u = rw (← f, t, ← z) (put_behind p (put_behind (put_behind q s) u))
+  prefix_closed A c b f t z p q s u = rw (← f, t, ← z) (put_behind p (put_behind (put_behind q s) u))
 
-  pub prefix_open : {m : List ℕ} {e : ℕ} (v : Variables) (c : Bool) → c ≡ closes_in v → c ≡ false → Put l at (blocks_text v) e m → Put m e line_end r l' → Put l at (prefix_lines v) r l'
+  pub prefix_open : {m : List ℕ} {e : ℕ} (A : Arrays) (c : Bool) → c ≡ closes_in A → c ≡ false → Put l at (blocks_text A) e m → Put m e line_end r l' → Put l at (prefix_lines A) r l'
   unfolding prefix_lines
-  prefix_open v c f t p u = rw (← f, t) (put_behind p u)
+  prefix_open A c f t p u = rw (← f, t) (put_behind p u)

@@ -1,7 +1,7 @@
 -- What the code forms over the arrays is what the definition says of the problem that they state.
 use mathlib.Core.Path.{◌≡◌, sym, ap, ap₂, ◌∙◌}
 use mathlib.Core.Bool.{Bool, true, false, cond}
-use mathlib.Core.List.{List, ◌++◌}
+use mathlib.Core.List.{◌++◌}
 use Prim.Native.Nat.{ℕ, suc, ◌+◌, ◌<◌}
 use native.Mathlib.Omega.{arith}
 use lib.ListN.{length}
@@ -9,7 +9,7 @@ use Rattle.game.specs.Problem.{Problem}
 use Rattle.formula.specs.Encoding.{formula_of}
 use Rattle.formula.specs.Text.{header_text, prefix_text, clauses_text, text_of}
 use Rattle.formula_theory.proofs.PrefixLaws.{booleans_all}
-use Rattle.solver_arrays.specs.declared.Variables.{Variables}
+use Rattle.solver_arrays.specs.declared.arrays.Arrays.{Arrays}
 use Rattle.solver_arrays.specs.Arrays.{Poses}
 use Rattle.formula_text.specs.Body.{closes_in, all_in, booleans_in, clauses_in, body_text}
 use Rattle.formula_text.proofs.CodedLaws.{all_is, closes_is}
@@ -20,21 +20,21 @@ one_more : (b : Bool) (x : ℕ) → cond b (suc x) x ≡ x + cond b 1 0
 one_more true x = omega arith
 one_more false x = omega arith
 
-module _ (P : Problem) (v : Variables) (near index rows : List ℕ) (S : Poses P v near index rows) (some : 0 < v.n) where
-  booleans_are : booleans_in v ≡ length (formula_of P).prefix
+module _ (P : Problem) (A : Arrays) (S : Poses P A) (some : 0 < A.n) where
+  booleans_are : booleans_in A ≡ length (formula_of P).prefix
   unfolding booleans_in
   booleans_are =
-      one_more (closes_in v) (all_in v)
-      ∙ ap₂ (λ x b. x + cond b 1 0) (all_is P v near index rows S) (closes_is P v near index rows S some)
+      one_more (closes_in A) (all_in A)
+      ∙ ap₂ (λ x b. x + cond b 1 0) (all_is P A S) (closes_is P A S some)
       ∙ sym (booleans_all P)
 
-  body_is : body_text near index rows v ≡ prefix_text (formula_of P).prefix ++ clauses_text (formula_of P).clauses
+  body_is : body_text A ≡ prefix_text (formula_of P).prefix ++ clauses_text (formula_of P).clauses
   unfolding body_text
-  body_is = ap₂ (λ xs cs. xs ++ clauses_text cs) (prefix_is P v near index rows S some) (clauses_are P v near index rows S some)
+  body_is = ap₂ (λ xs cs. xs ++ clauses_text cs) (prefix_is P A S some) (clauses_are P A S some)
 
-  pub text_is : text_of (formula_of P) ≡ header_text (booleans_in v) (length (clauses_in near index rows v)) ++ body_text near index rows v
+  pub text_is : text_of (formula_of P) ≡ header_text (booleans_in A) (length (clauses_in A)) ++ body_text A
   unfolding text_of
   text_is =
       ap₂ (λ xs ys. xs ++ ys)
-      (ap₂ header_text (sym booleans_are) (ap length (sym (clauses_are P v near index rows S some))))
+      (ap₂ header_text (sym booleans_are) (ap length (sym (clauses_are P A S some))))
       (sym body_is)

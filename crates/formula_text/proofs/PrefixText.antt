@@ -15,7 +15,7 @@ use Rattle.formula.specs.Formula.{Quantified, only_if}
 use Rattle.formula.specs.Encoding.{run, width, base, closes, fresh, prefix_from, formula_of}
 use Rattle.formula.specs.Text.{blank, line_end, letter, line_start, in_line, prefix_text}
 use Rattle.formula_theory.proofs.Widths.{width_some}
-use Rattle.solver_arrays.specs.declared.Variables.{Variables}
+use Rattle.solver_arrays.specs.declared.arrays.Arrays.{Arrays}
 use Rattle.solver_arrays.specs.Arrays.{Poses}
 use Rattle.formula_words.specs.declared.coded.Coded.{Coded}
 use Rattle.formula_words.specs.Coding.{coded_in}
@@ -75,34 +75,34 @@ end_is false b = refl
 
 -- ---- all blocks
 
-module _ (P : Problem) (v : Variables) (near index rows : List ℕ) (S : Poses P v near index rows) where
+module _ (P : Problem) (A : Arrays) (S : Poses P A) where
   open P use {universal}
 
   -- The booleans of a variable, with what stands before them.
-  words_are : (i : ℕ) → i < v.n → words_text (coded_in v i).base (coded_in v i).width ≡ words_text (base P i) (width P i)
+  words_are : (i : ℕ) → i < A.n → words_text (coded_in A i).base (coded_in A i).width ≡ words_text (base P i) (width P i)
   unfolding code_of
-  words_are i h = ap (λ (x : Coded). words_text x.base x.width) (coded_is P v near index rows S i h)
+  words_are i h = ap (λ (x : Coded). words_text x.base x.width) (coded_is P A S i h)
 
-  opening_is : (i : ℕ) → suc i < v.n → opening_text v.universal (suc i) ≡ turn_text (universal i) (universal (suc i))
+  opening_is : (i : ℕ) → suc i < A.n → opening_text A.universal (suc i) ≡ turn_text (universal i) (universal (suc i))
   unfolding opening_text
   opening_is i h =
       let e : suc i - 1 ≡ i = omega arith in
-      rw (eqb-suc-zero i, e) (ap₂ turn_text (side_is P v near index rows S i (omega arith)) (side_is P v near index rows S (suc i) h))
+      rw (eqb-suc-zero i, e) (ap₂ turn_text (side_is P A S i (omega arith)) (side_is P A S (suc i) h))
 
-  block_is : (i : ℕ) → suc i < v.n → block_text v (suc i) ≡ turn_text (universal i) (universal (suc i)) ++ words_text (base P (suc i)) (width P (suc i))
+  block_is : (i : ℕ) → suc i < A.n → block_text A (suc i) ≡ turn_text (universal i) (universal (suc i)) ++ words_text (base P (suc i)) (width P (suc i))
   unfolding block_text
   block_is i h = ap₂ (λ xs ys. xs ++ ys) (opening_is i h) (words_are (suc i) h)
 
-  block_zero : 0 < v.n → block_text v 0 ≡ line_start (universal 0) ++ words_text (base P 0) (width P 0)
+  block_zero : 0 < A.n → block_text A 0 ≡ line_start (universal 0) ++ words_text (base P 0) (width P 0)
   unfolding block_text opening_text
-  block_zero h = ap₂ (λ xs ys. xs ++ ys) (ap (λ u. line_start u) (side_is P v near index rows S 0 h)) (words_are 0 h)
+  block_zero h = ap₂ (λ xs ys. xs ++ ys) (ap (λ u. line_start u) (side_is P A S 0 h)) (words_are 0 h)
 
-  last_is : (i : ℕ) → suc i ≡ v.n → universal i ≡ closes P
+  last_is : (i : ℕ) → suc i ≡ A.n → universal i ≡ closes P
   unfolding closes
   last_is i e = ap universal (omega (arith, S.states.size))
 
   -- The k variables behind i.
-  lines_behind : (k i : ℕ) → k + suc i ≡ v.n → in_line (universal i) (prefix_from P k (suc i)) ≡ joined (λ t. block_text v (suc i + t)) k ++ end_text (closes P) (base P P.n)
+  lines_behind : (k i : ℕ) → k + suc i ≡ A.n → in_line (universal i) (prefix_from P k (suc i)) ≡ joined (λ t. block_text A (suc i + t)) k ++ end_text (closes P) (base P P.n)
   unfolding prefix_from fresh joined
   lines_behind zero i e =
       ap (λ u. in_line u (only_if (closes P) (record { universal = false; boolean = suc (base P P.n) } ∷ []))) (last_is i (omega arith))
@@ -114,10 +114,10 @@ module _ (P : Problem) (v : Variables) (near index rows : List ℕ) (S : Poses P
       block_next (universal i) (universal (suc i)) (base P (suc i)) (width P (suc i)) (prefix_from P k (suc (suc i))) (width_some P (suc i) (omega (arith, S.states.size)))
       ∙ sym (append_assoc t w (in_line (universal (suc i)) (prefix_from P k (suc (suc i)))))
       ∙ ap₂ (λ xs ys. xs ++ ys) (sym (block_is i (omega arith))) (lines_behind k (suc i) (omega arith))
-      ∙ sym (append_assoc (block_text v (suc i)) (joined (λ t. block_text v (suc (suc i) + t)) k) end)
-      ∙ ap (λ xs. xs ++ end) (sym (joined-from (block_text v) (suc i) k))
+      ∙ sym (append_assoc (block_text A (suc i)) (joined (λ t. block_text A (suc (suc i) + t)) k) end)
+      ∙ ap (λ xs. xs ++ end) (sym (joined-from (block_text A) (suc i) k))
 
-  lines_all : (k : ℕ) → suc k ≡ v.n → prefix_text (prefix_from P (suc k) 0) ≡ joined (block_text v) (suc k) ++ end_text (closes P) (base P P.n)
+  lines_all : (k : ℕ) → suc k ≡ A.n → prefix_text (prefix_from P (suc k) 0) ≡ joined (block_text A) (suc k) ++ end_text (closes P) (base P P.n)
   unfolding prefix_from
   lines_all k e =
       let w = words_text (base P 0) (width P 0) in
@@ -125,14 +125,14 @@ module _ (P : Problem) (v : Variables) (near index rows : List ℕ) (S : Poses P
       block_first (universal 0) (base P 0) (width P 0) (prefix_from P k 1) (width_some P 0 (omega (arith, S.states.size)))
       ∙ sym (append_assoc (line_start (universal 0)) w (in_line (universal 0) (prefix_from P k 1)))
       ∙ ap₂ (λ xs ys. xs ++ ys) (sym (block_zero (omega arith))) (lines_behind k 0 (omega arith))
-      ∙ sym (append_assoc (block_text v 0) (joined (λ t. block_text v (1 + t)) k) end)
-      ∙ ap (λ xs. xs ++ end) (sym (joined-from (block_text v) 0 k) ∙ joined_same (λ t. block_text v (0 + t)) (block_text v) (suc k) (λ i h. ap (block_text v) (zero-add i)))
+      ∙ sym (append_assoc (block_text A 0) (joined (λ t. block_text A (1 + t)) k) end)
+      ∙ ap (λ xs. xs ++ end) (sym (joined-from (block_text A) 0 k) ∙ joined_same (λ t. block_text A (0 + t)) (block_text A) (suc k) (λ i h. ap (block_text A) (zero-add i)))
 
-  pub prefix_is : 0 < v.n → prefix_lines v ≡ prefix_text (formula_of P).prefix
+  pub prefix_is : 0 < A.n → prefix_lines A ≡ prefix_text (formula_of P).prefix
   unfolding prefix_lines blocks_text formula_of end_text
   prefix_is h =
-      let e : suc (v.n - 1) ≡ v.n = omega arith in
-      let e' : suc (v.n - 1) ≡ P.n = omega (arith, S.states.size) in
-      ap₂ (λ xs ys. xs ++ ys) (ap (joined (block_text v)) (sym e)) (ap₂ end_text (closes_is P v near index rows S h) (all_is P v near index rows S))
-      ∙ sym (lines_all (v.n - 1) e)
+      let e : suc (A.n - 1) ≡ A.n = omega arith in
+      let e' : suc (A.n - 1) ≡ P.n = omega (arith, S.states.size) in
+      ap₂ (λ xs ys. xs ++ ys) (ap (joined (block_text A)) (sym e)) (ap₂ end_text (closes_is P A S h) (all_is P A S))
+      ∙ sym (lines_all (A.n - 1) e)
       ∙ ap (λ k. prefix_text (prefix_from P k 0)) e'

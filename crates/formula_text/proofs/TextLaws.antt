@@ -8,16 +8,16 @@ use Rattle.buffer.specs.Decimal.{decimal}
 use Rattle.buffer.specs.Put.{Put}
 use Rattle.buffer.proofs.PutLaws.{put_more, put_last}
 use Rattle.formula.specs.Text.{problem_label, blank, header_text}
-use Rattle.solver_arrays.specs.declared.Variables.{Variables}
+use Rattle.solver_arrays.specs.declared.arrays.Arrays.{Arrays}
 use Rattle.formula_text.specs.Body.{closes_in, all_in, booleans_in}
 
-pub booleans_closed : (v : Variables) (c : Bool) (b : ℕ) → c ≡ closes_in v → c ≡ true → b ≡ all_in v → b + 1 ≡ booleans_in v
+pub booleans_closed : (A : Arrays) (c : Bool) (b : ℕ) → c ≡ closes_in A → c ≡ true → b ≡ all_in A → b + 1 ≡ booleans_in A
 unfolding booleans_in
-booleans_closed v c b f t z = rw (← f, t, ← z, add-one)
+booleans_closed A c b f t z = rw (← f, t, ← z, add-one)
 
-pub booleans_open : (v : Variables) (c : Bool) (b : ℕ) → c ≡ closes_in v → c ≡ false → b ≡ all_in v → b ≡ booleans_in v
+pub booleans_open : (A : Arrays) (c : Bool) (b : ℕ) → c ≡ closes_in A → c ≡ false → b ≡ all_in A → b ≡ booleans_in A
 unfolding booleans_in
-booleans_open v c b f t z = rw (← f, t, ← z)
+booleans_open A c b f t z = rw (← f, t, ← z)
 
 pub header_put :
     {l l' m m' m'' m''' : List ℕ} {at r e e' e'' e''' : ℕ} (v c : ℕ) → Put l at problem_label e m → Put m e (decimal v) e' m' → Put m' e' blank e'' m''

@@ -3,7 +3,7 @@
 // `formula_entries`.
 #![tactic(auto)]
 
-ghost use Rattle.std.specs.Prelude.{◌≡◌, ◌≤◌, ◌<◌};
+ghost use Rattle.std.specs.Prelude.{◌≡◌, ◌<◌};
 ghost use Rattle.buffer.specs.Put.{Put};
 ghost use Rattle.formula.specs.Text.{header_text};
 ghost use Rattle.formula_text.specs.Body.{booleans_in, Bodied};
@@ -16,15 +16,15 @@ use buffer::{put, put_number};
 use closing::put_closing;
 use formula_clauses::{Spot, put_constraints, put_existentials};
 use prefix::{all_booleans, closes, put_prefix};
-use solver_arrays::{Index, Near, Rows, Variables};
+use solver_arrays::Arrays;
 
 // How many booleans the prefix has.
-fn booleans(v: Variables) -> usize
-    requires { (0 < v.n) × (v.n ≤ 32) }
-    ensures { result ≡ booleans_in v }
+fn booleans(arrays: &Arrays) -> usize
+    requires { 0 < arrays.now.n }
+    ensures { result ≡ booleans_in arrays.now }
 {
-    let all = all_booleans(v);
-    if closes(v) { all + 1 } else { all }
+    let all = all_booleans(arrays);
+    if closes(arrays) { all + 1 } else { all }
 }
 
 // The first line: how many booleans and clauses there are.
@@ -39,54 +39,33 @@ fn put_header(out: &mut [u8], at: usize, booleans: usize, clauses: usize) -> usi
 }
 
 // All other lines.
-fn put_body(
-    out: &mut [u8],
-    at: usize,
-    near: &Near,
-    index: &Index,
-    rows: &Rows,
-    v: Variables,
-) -> Spot
-    requires { Printable index.now v }
-    ensures { Bodied near.now index.now rows.now v out.old at result out.new }
+fn put_body(out: &mut [u8], at: usize, arrays: &Arrays) -> Spot
+    requires { Printable arrays.now }
+    ensures { Bodied arrays.now out.old at result out.new }
 {
-    let p = put_prefix(out, at, v);
+    let p = put_prefix(out, at, arrays);
     let s = Spot { at: p, clauses: 0 };
-    let a = put_existentials(out, s, v);
-    let b = put_constraints(out, a, near, index, rows, v);
-    let c = put_closing(out, b, v);
-    Spot {
-        at: c.at,
-        clauses: c.clauses,
-    }
+    let a = put_existentials(out, s, arrays);
+    let b = put_constraints(out, a, arrays);
+    put_closing(out, b, arrays)
 }
 
 // How long the text is, and how many clauses it has: its lines put into a buffer that holds none of them.
-pub fn measure(near: &Near, index: &Index, rows: &Rows, v: Variables) -> Spot
-    requires { Printable index.now v }
-    ensures { Measures near.now index.now rows.now v result }
+pub fn measure(arrays: &Arrays) -> Spot
+    requires { Printable arrays.now }
+    ensures { Measures arrays.now result }
 {
     let mut none = [0u8; 1];
-    let s = put_body(&mut none, 0, near, index, rows, v);
-    let h = put_header(&mut none, s.at, booleans(v), s.clauses);
-    Spot {
-        at: h,
-        clauses: s.clauses,
-    }
+    let s = put_body(&mut none, 0, arrays);
+    let h = put_header(&mut none, s.at, booleans(arrays), s.clauses);
+    Spot { at: h, ..s }
 }
 
 // Puts the text, with this number of clauses, at the front of the buffer.
-pub fn put_formula(
-    out: &mut [u8],
-    near: &Near,
-    index: &Index,
-    rows: &Rows,
-    v: Variables,
-    clauses: usize,
-)
-    requires { Printable index.now v }
-    ensures { Prints near.now index.now rows.now v clauses out.old out.new }
+pub fn put_formula(out: &mut [u8], arrays: &Arrays, clauses: usize)
+    requires { Printable arrays.now }
+    ensures { Prints arrays.now clauses out.old out.new }
 {
-    let h = put_header(out, 0, booleans(v), clauses);
-    put_body(out, h, near, index, rows, v);
+    let h = put_header(out, 0, booleans(arrays), clauses);
+    put_body(out, h, arrays);
 }

@@ -6,8 +6,8 @@ ghost use Rattle.formula_text.specs.Body.{turn_text, opening_text, block_text, b
 
 use buffer::put;
 use formula_words::{base_of, coding_of, put_end, put_words};
-use mask::contains_32;
-use solver_arrays::Variables;
+use mask::contains;
+use solver_arrays::Arrays;
 
 // How a line begins: a letter for its side.
 fn put_side(out: &mut [u8], at: usize, universal: bool) -> usize
@@ -37,63 +37,57 @@ fn put_opening(out: &mut [u8], at: usize, universal: u32, i: usize) -> usize
     requires { i < 32 }
     ensures { Put out.old at (opening_text universal i) result out.new }
 {
-    let w = contains_32(universal, i);
+    let w = contains(universal, i);
     if i == 0 {
         put_side(out, at, w)
     } else {
-        put_turn(out, at, contains_32(universal, i - 1), w)
+        put_turn(out, at, contains(universal, i - 1), w)
     }
 }
 
 // The booleans of variable i.
-fn put_block(out: &mut [u8], at: usize, v: Variables, i: usize) -> usize
+fn put_block(out: &mut [u8], at: usize, arrays: &Arrays, i: usize) -> usize
     requires { i < 32 }
-    ensures { Put out.old at (block_text v i) result out.new }
+    ensures { Put out.old at (block_text arrays.now i) result out.new }
 {
-    let x = coding_of(v, i);
-    let e = put_opening(out, at, v.universal, i);
+    let x = coding_of(arrays, i);
+    let e = put_opening(out, at, arrays.universal, i);
     put_words(out, e, x.base, x.width)
 }
 
-fn put_blocks(out: &mut [u8], at: usize, v: Variables) -> usize
-    requires { v.n ≤ 32 }
-    ensures { Put out.old at (blocks_text v) result out.new }
+fn put_blocks(out: &mut [u8], at: usize, arrays: &Arrays) -> usize
+    ensures { Put out.old at (blocks_text arrays.now) result out.new }
 {
-    let n = v.n;
     let mut e = at;
-    let mut i = 0;
-    while i < n {
-        e = put_block(out, e, v, i);
-        i += 1;
+    for i in 0..arrays.n {
+        e = put_block(out, e, arrays, i);
     }
     e
 }
 
 // Whether the last variable is universal, so that a fresh existential boolean closes the prefix.
-pub fn closes(v: Variables) -> bool
-    requires { (0 < v.n) × (v.n ≤ 32) }
-    ensures { result ≡ closes_in v }
+pub fn closes(arrays: &Arrays) -> bool
+    requires { 0 < arrays.now.n }
+    ensures { result ≡ closes_in arrays.now }
 {
-    contains_32(v.universal, v.n - 1)
+    contains(arrays.universal, arrays.n - 1)
 }
 
 // How many booleans the variables become.
-pub fn all_booleans(v: Variables) -> usize
-    requires { v.n ≤ 32 }
-    ensures { (result ≡ all_in v) × (result ≤ 512) }
+pub fn all_booleans(arrays: &Arrays) -> usize
+    ensures { (result ≡ all_in arrays.now) × (result ≤ 512) }
 {
-    let domains = v.domains;
-    base_of(v.universal, &domains, v.n)
+    base_of(arrays, arrays.n)
 }
 
-pub fn put_prefix(out: &mut [u8], at: usize, v: Variables) -> usize
-    requires { (0 < v.n) × (v.n ≤ 32) }
-    ensures { Put out.old at (prefix_lines v) result out.new }
+pub fn put_prefix(out: &mut [u8], at: usize, arrays: &Arrays) -> usize
+    requires { 0 < arrays.now.n }
+    ensures { Put out.old at (prefix_lines arrays.now) result out.new }
 {
-    let e = put_blocks(out, at, v);
-    if closes(v) {
+    let e = put_blocks(out, at, arrays);
+    if closes(arrays) {
         let a = put_turn(out, e, true, false);
-        let b = put_words(out, a, all_booleans(v), 1);
+        let b = put_words(out, a, all_booleans(arrays), 1);
         put_end(out, b)
     } else {
         put_end(out, e)

@@ -1,7 +1,6 @@
 -- What is coded of a variable is small: no more than 16 values and booleans; the booleans before it are no more than 16 of each variable.
 use mathlib.Core.Path.{◌≡◌, refl}
 use mathlib.Core.Bool.{Bool, true, false}
-use mathlib.Core.List.{List}
 use Prim.Native.Nat.{ℕ, ◌+◌, ◌*◌, ◌≤◌, ◌<◌, ◌^◌}
 use native.Mathlib.Numerals.{add-one}
 use native.Mathlib.Omega.{arith}
@@ -11,13 +10,13 @@ use Rattle.mask.specs.Mask.{bit}
 use Rattle.mask.proofs.Range.{count-bound}
 use Rattle.formula.specs.Encoding.{bits_for, width_for, ways_for}
 use Rattle.formula.proofs.BitLaws.{width_for_most, sum_most}
-use Rattle.solver_arrays.specs.declared.Variables.{Variables}
+use Rattle.solver_arrays.specs.declared.arrays.Arrays.{Arrays}
 use Rattle.formula_words.specs.declared.coded.Coded.{Coded}
 use Rattle.formula_words.specs.Coding.{size_in, base_in, coded_in, Bounded}
 
-pub size_most : (domains : List ℕ) (i : ℕ) → size_in domains i ≤ 16
+pub size_most : (A : Arrays) (i : ℕ) → size_in A i ≤ 16
 unfolding size_in
-size_most domains i = count-bound 16 (bit (get_or domains i 0))
+size_most A i = count-bound 16 (bit (get_or A.domains i 0))
 
 -- By side.
 pub width-universal : (b : Bool) (d w : ℕ) → b ≡ true → w ≡ bits_for d → w ≤ 4 → (w ≡ width_for b d) × (w ≤ 16)
@@ -38,32 +37,32 @@ ways_existential b d t = rw t
 
 -- The booleans before a variable: one variable more.
 pub base_more :
-    (universal : ℕ) (domains : List ℕ) (k base : ℕ) (u : Bool) (domain size width : ℕ) → base ≡ base_in universal domains k → u ≡ bit universal k
-    → domain ≡ get_or domains k 0 → size ≡ count 16 (bit domain) → width ≡ width_for u size → base + width ≡ base_in universal domains (k + 1)
+    (A : Arrays) (k base : ℕ) (u : Bool) (size width : ℕ) → base ≡ base_in A k → u ≡ bit A.universal k → size ≡ count 16 (bit (get_or A.domains k 0))
+    → width ≡ width_for u size → base + width ≡ base_in A (k + 1)
 unfolding base_in size_in
-base_more universal domains k base u domain size width a b c d e = rw (add-one, a, e, d, c, b)
+base_more A k base u size width a b c d = rw (add-one, a, d, c, b)
 
-pub base_most : (universal : ℕ) (domains : List ℕ) (i : ℕ) → base_in universal domains i ≤ 16 * i
+pub base_most : (A : Arrays) (i : ℕ) → base_in A i ≤ 16 * i
 unfolding base_in
-base_most universal domains =
-    sum_most 16 (base_in universal domains) (λ i. width_for (bit universal i) (size_in domains i)) refl (λ i. refl)
-    (λ i. width_for_most (bit universal i) (size_in domains i) (size_most domains i))
+base_most A =
+    sum_most 16 (base_in A) (λ i. width_for (bit A.universal i) (size_in A i)) refl (λ i. refl)
+    (λ i. width_for_most (bit A.universal i) (size_in A i) (size_most A i))
 
 -- All of a variable.
 pub coded_by :
-    (v : Variables) (i : ℕ) (u : Bool) (base size width ways domain : ℕ) → u ≡ bit v.universal i → domain ≡ get_or v.domains i 0
-    → size ≡ count 16 (bit domain) → base ≡ base_in v.universal v.domains i → width ≡ width_for u size → ways ≡ ways_for u size
-    → record { universal = u; base = base; size = size; width = width; ways = ways; domain = domain } ≡ coded_in v i
+    (A : Arrays) (i : ℕ) (u : Bool) (base size width ways : ℕ) → u ≡ bit A.universal i → size ≡ count 16 (bit (get_or A.domains i 0)) → base ≡ base_in A i
+    → width ≡ width_for u size → ways ≡ ways_for u size
+    → record { universal = u; base = base; size = size; width = width; ways = ways; domain = get_or A.domains i 0 } ≡ coded_in A i
 unfolding coded_in size_in
-coded_by v i u base size width ways domain a b c d e f = rw (f, e, d, c, b, a)
+coded_by A i u base size width ways a b c d e = rw (e, d, c, b, a)
 
-pub coded_bounded : (v : Variables) (i : ℕ) → i ≤ 32 → Bounded (coded_in v i)
+pub coded_bounded : (A : Arrays) (i : ℕ) → i ≤ 32 → Bounded (coded_in A i)
 unfolding coded_in
-coded_bounded v i h = record {
-  base = let b = base_most v.universal v.domains i in omega arith;
-  size = size_most v.domains i;
-  width = width_for_most (bit v.universal i) (size_in v.domains i) (size_most v.domains i);
+coded_bounded A i h = record {
+  base = let b = base_most A i in omega arith;
+  size = size_most A i;
+  width = width_for_most (bit A.universal i) (size_in A i) (size_most A i);
 }
 
-pub bounded_of : (v : Variables) (i : ℕ) (x : Coded) → i < 32 → x ≡ coded_in v i → Bounded x
-bounded_of v i x h e = rw e (coded_bounded v i (omega arith))
+pub bounded_of : (A : Arrays) (i : ℕ) (x : Coded) → i < 32 → x ≡ coded_in A i → Bounded x
+bounded_of A i x h e = rw e (coded_bounded A i (omega arith))

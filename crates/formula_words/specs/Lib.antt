@@ -1,4 +1,4 @@
--- The booleans of a variable, over the decoded variables, and the text of literals.
+-- The booleans of a variable, over the decoded arrays, and the text of literals.
 
 -- What is coded of a variable.
 pub mod Coding

@@ -1,12 +1,12 @@
 // The booleans that stand for the values of a variable.
-ghost use Rattle.std.specs.Prelude.{◌≡◌, ◌*◌, ◌≤◌, ◌<◌, get_or};
+ghost use Rattle.std.specs.Prelude.{◌≡◌, ◌*◌, ◌≤◌, ◌<◌};
 ghost use Rattle.mask.specs.Range.{count};
 ghost use Rattle.mask.specs.Mask.{bit};
 ghost use Rattle.formula.specs.Encoding.{bits_for, width_for, ways_for};
 ghost use Rattle.formula_words.specs.Coding.{base_in, coded_in};
 
-use mask::{contains_32, count_of, meet, single};
-use solver_arrays::Variables;
+use mask::{contains, count_of, meet, single};
+use solver_arrays::Arrays;
 
 // Of a variable: its side, how many booleans come before its own, how many values it has, how many booleans it becomes, how many ways
 // stand for its values, its domain.
@@ -53,49 +53,35 @@ fn ways_of(universal: bool, size: usize) -> usize
     requires { size ≤ 16 }
     ensures { result ≡ ways_for universal size }
 {
-    if universal {
-        single(bits_for(size)) as usize
-    } else {
-        size
-    }
-}
-
-fn domain_at(domains: &[u16; 32], i: usize) -> u16
-    requires { i < 32 }
-    ensures { result ≡ get_or domains.now i 0 }
-{
-    domains[i]
+    if universal { 1 << bits_for(size) } else { size }
 }
 
 // How many booleans come before those of variable i.
-pub fn base_of(universal: u32, domains: &[u16; 32], i: usize) -> usize
+pub fn base_of(arrays: &Arrays, i: usize) -> usize
     requires { i ≤ 32 }
-    ensures { (result ≡ base_in universal domains.now i) × (result ≤ 16 * i) }
+    ensures { (result ≡ base_in arrays.now i) × (result ≤ 16 * i) }
 {
     let mut base = 0;
-    let mut k = 0;
-    while k < i {
-        base += width_of(contains_32(universal, k), size_of(domain_at(domains, k)));
-        k += 1;
+    for k in 0..i {
+        base += width_of(contains(arrays.universal, k), size_of(arrays.domains[k]));
     }
     base
 }
 
-pub fn coding_of(v: Variables, i: usize) -> Coded
+pub fn coding_of(arrays: &Arrays, i: usize) -> Coded
     requires { i < 32 }
-    ensures { result ≡ coded_in v i }
+    ensures { result ≡ coded_in arrays.now i }
 {
-    let domains = v.domains;
-    let universal = contains_32(v.universal, i);
-    let domain = domain_at(&domains, i);
+    let universal = contains(arrays.universal, i);
+    let domain = arrays.domains[i];
     let size = size_of(domain);
     Coded {
-        universal: universal,
-        base: base_of(v.universal, &domains, i),
-        size: size,
+        universal,
+        base: base_of(arrays, i),
+        size,
         width: width_of(universal, size),
         ways: ways_of(universal, size),
-        domain: domain,
+        domain,
     }
 }
 
@@ -104,5 +90,5 @@ pub fn place_of(domain: u16, a: usize) -> usize
     requires { a < 16 }
     ensures { (result ≡ count a (bit domain)) × (result ≤ 16) }
 {
-    size_of(meet(domain, single(a) - 1))
+    size_of(meet(domain, single::<u16>(a) - 1))
 }

@@ -8,14 +8,14 @@ ghost use Rattle.formula_words.specs.Words.{literal_word, words_text, literals_t
 
 use crate::coded::Coded;
 use buffer::{put, put_byte, put_number};
-use mask::contains_64;
+use mask::contains;
 
 // A number and a blank.
 fn put_word(out: &mut [u8], at: usize, x: usize) -> usize
     ensures { Put out.old at (decimal x ++ blank) result out.new }
 {
     let e = put_number(out, at, x);
-    put_byte(out, e, 32)
+    put_byte(out, e, b' ')
 }
 
 // A boolean or its negation, and a blank.
@@ -25,7 +25,7 @@ fn put_literal(out: &mut [u8], at: usize, positive: bool, x: usize) -> usize
     if positive {
         put_word(out, at, x)
     } else {
-        let e = put_byte(out, at, 45);
+        let e = put_byte(out, at, b'-');
         put_word(out, e, x)
     }
 }
@@ -43,10 +43,8 @@ pub fn put_words(out: &mut [u8], at: usize, base: usize, k: usize) -> usize
     ensures { Put out.old at (words_text base k) result out.new }
 {
     let mut e = at;
-    let mut t = 0;
-    while t < k {
+    for t in 0..k {
         e = put_word(out, e, base + t + 1);
-        t += 1;
     }
     e
 }
@@ -57,11 +55,8 @@ fn put_bits(out: &mut [u8], at: usize, base: usize, k: usize, c: usize) -> usize
     ensures { Put out.old at (literals_text (bits_denied base k c)) result out.new }
 {
     let mut e = at;
-    let mut left = k;
-    while left != 0 {
-        left -= 1;
-        let t = k - left - 1;
-        let set = contains_64(c as u64, t);
+    for t in 0..k {
+        let set = contains(c as u64, t);
         e = put_literal(out, e, !set, base + t + 1);
     }
     e

@@ -8,9 +8,8 @@ use lib.Dec.{T, ltb}
 use lib.ListN.{get_or, length}
 use borrow.Author.Tests.{le-leb}
 use Rattle.mask.proofs.Logic.{holds}
-use Rattle.refusal.specs.declared.Verdict.TheVariants.{Fine}
 use Rattle.refusal.specs.Replied.{replied_for}
-use Rattle.refusal.specs.Chain.{◌then◌, need}
+use Rattle.refusal.specs.Chain.{Fine, ◌then◌, need}
 use Rattle.rule_set.specs.RuleSet.{greatest_set, is_rule_set}
 use Rattle.file_records.specs.Records.{verdict_of}
 use Rattle.file_reader.proofs.Accepted.{variables_most}

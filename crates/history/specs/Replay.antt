@@ -1,6 +1,6 @@
 -- Demand 3, and the calls of a history as bytes.
 use Rattle.std.specs.Prelude.{◌≡◌, cond, List, [], ◌∷◌, ℕ, ◌≤◌, eqb, ltb, get_or, length}
-use Rattle.refusal.specs.declared.Verdict.TheVariants.{Fine}
+use Rattle.refusal.specs.Chain.{Fine}
 use Rattle.refusal.specs.Told.{Told, replied, refused}
 use Rattle.rule_set.specs.RuleSet.{greatest_set}
 use Rattle.file_records.specs.Records.{verdict_of}

@@ -4,48 +4,42 @@
 #![tactic(auto)]
 
 ghost use Rattle.std.specs.Prelude.{◌≡◌, length};
-ghost use Rattle.refusal.specs.declared.Verdict.TheVariants.{Fine};
+ghost use Rattle.refusal.specs.Chain.{Fine};
 ghost use Rattle.file_records.specs.Records.{verdict_of};
-ghost use Rattle.session.specs.Told.{told_opened, open_told, masks_shown, counts_shown};
+ghost use Rattle.session.specs.Told.{told_opened, masks_in, counts_in, open_told, masks_shown, counts_shown};
 ghost use Rattle.session.specs.History.{step, reached_from, reached_by};
 ghost use Rattle.marking.specs.Marking.{told, mark_told, mark_left};
 ghost use Rattle.history.specs.Replay.{call_of, calls_of, Demand3};
 
-use marking::{Marked, mark};
+use marking::{Marks, mark};
 use position::{Position, fresh};
-use session::{Opened, open_values, play, take_back};
+use refusal::Refusal;
+use session::{Opened, left, open_values, play, take_back};
 
 // What marking and the open values reply at the position reached.
 #[derive(Clone, Copy)]
 pub struct Replayed {
-    pub marks: Marked,
-    pub opened: Opened,
+    pub marks: Result<Marks, Refusal>,
+    pub opened: Result<Opened, Refusal>,
 }
 
 // The position that the call returned or left. A byte 255 is a take-back, any other a play of that value.
 fn called(f: &[u8], p: Position, call: u8) -> Position
     ensures { result ≡ step f.now p (call_of call) }
 {
-    if call == 255 {
-        let t = take_back(f, p);
-        t.position
+    let reply = if call == 255 {
+        take_back(f, p)
     } else {
-        let t = play(f, p, call as usize);
-        t.position
-    }
+        play(f, p, call as usize)
+    };
+    left(p, reply)
 }
 
 // The position that the calls reach from another.
 fn reached(f: &[u8], start: Position, calls: &[u8]) -> Position
     ensures { result ≡ reached_from f.now start (calls_of calls.now) }
 {
-    let mut p = start;
-    let mut i = 0;
-    while i < calls.len() {
-        p = called(f, p, calls[i]);
-        i += 1;
-    }
-    p
+    calls.iter().fold(start, |p, call| called(f, p, *call))
 }
 
 // Runs the calls, each a byte, and replies the marks and the open values reached, under the rule set of this number. The
@@ -54,8 +48,8 @@ pub fn replay(f: &[u8], calls: &[u8], set: usize, room: &mut [u16]) -> Replayed
     ensures marks_value { told result.marks ≡ mark_told f.now (reached_by f.now (calls_of calls.now)) set
         (length room.old) }
     ensures opened_value { told_opened result.opened ≡ open_told f.now (reached_by f.now (calls_of calls.now)) }
-    ensures masks_value { (result.opened.masks ≡ masks_shown f.now (reached_by f.now (calls_of calls.now)))
-        × (result.opened.counts ≡ counts_shown f.now (reached_by f.now (calls_of calls.now))) }
+    ensures masks_value { (masks_in result.opened ≡ masks_shown f.now (reached_by f.now (calls_of calls.now)))
+        × (counts_in result.opened ≡ counts_shown f.now (reached_by f.now (calls_of calls.now))) }
     ensures room_after { room.new ≡ mark_left f.now (reached_by f.now (calls_of calls.now)) set
         room.old }
     ensures demand3 { (fine : verdict_of f.now ≡ Fine)

@@ -8,5 +8,5 @@ pub mod Samples
 pub mod Replied
 -- The writer's tests of a rule set that no byte holds.
 pub mod WideSet
--- A text put into a caller's buffer.
+-- What is told of a text in a caller's buffer.
 pub mod TextLaws

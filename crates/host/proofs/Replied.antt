@@ -9,12 +9,11 @@ use lib.Dec.{T}
 use lib.ListN.{get_or}
 use borrow.Author.Tests.{le-leb, lt-leb, lt-ltb}
 use Rattle.mask.proofs.Logic.{holds}
-use Rattle.refusal.specs.declared.Verdict.{Verdict}
-use Rattle.refusal.specs.declared.Verdict.TheVariants.{Fine}
-use Rattle.refusal.specs.declared.Verdict.TheVariants.{Refused as Not}
-use Rattle.refusal.specs.Told.{refused_at}
+use Rattle.std.specs.Prelude.{Err}
+use Rattle.refusal.specs.declared.reason.Reason.TheVariants.{Rules, Misfit}
+use Rattle.refusal.specs.Chain.{Test, Fine, need}
+use Rattle.refusal.specs.Told.{fault_told}
 use Rattle.refusal.specs.Replied.{replied_for}
-use Rattle.refusal.specs.Chain.{need}
 use Rattle.refusal.proofs.Chain.{go, stop, then_ok, need_ok}
 use Rattle.rule_set.specs.RuleSet.{is_rule_set, greatest_set}
 use Rattle.file_layout.specs.Layout.{n_of}
@@ -38,17 +37,17 @@ use Rattle.host_replies.specs.Replies.{kind_of, number_of, place_of, value_of, j
 
 -- The tests on a position and a rule set.
 module _ (n : ℕ) (masks : List ℕ) (p : Position) (set : ℕ) where
-  rules-refused : greatest_set < set → position_test n masks p set ≡ Not 8 0
+  rules-refused : greatest_set < set → position_test n masks p set ≡ Err Rules
   unfolding position_test is_rule_set need
-  rules-refused h = stop _ _ 8 0 (ap (λ (b : Bool). need b 8 0) (lt-leb set greatest_set h))
+  rules-refused h = stop _ _ Rules (ap (λ (b : Bool). need b Rules) (lt-leb set greatest_set h))
 
-  plays_refused : set ≤ greatest_set → n < p.plays → position_test n masks p set ≡ Not 23 0
+  plays_refused : set ≤ greatest_set → n < p.plays → position_test n masks p set ≡ Err Misfit
   unfolding position_test is_rule_set fits_in need
-  plays_refused h k = go _ _ (need_ok _ _ _ (le-leb set greatest_set h)) ∙ rw (lt-leb p.plays n k) refl
+  plays_refused h k = go _ _ (need_ok _ _ (le-leb set greatest_set h)) ∙ rw (lt-leb p.plays n k) refl
 
   position_taken : set ≤ greatest_set → T (fits_in p n masks) → position_test n masks p set ≡ Fine
   unfolding position_test is_rule_set
-  position_taken h t = then_ok _ _ (need_ok _ _ _ (le-leb set greatest_set h)) (need_ok _ _ _ (holds t))
+  position_taken h t = then_ok _ _ (need_ok _ _ (le-leb set greatest_set h)) (need_ok _ _ (holds t))
 
 module _ (f : List ℕ) (fine : verdict_of f ≡ Fine) (p : Position) (set : ℕ) where
   abbrev pub P : Problem
@@ -64,27 +63,27 @@ module _ (f : List ℕ) (fine : verdict_of f ≡ Fine) (p : Position) (set : ℕ
   size : P.n ≤ 32
   size = omega (arith, problem_size f fine, (accepted f fine).head.counts.most)
 
-  judge_by : (v : Verdict) → judge_test P.n P.domain p set (room_needed P) held_room ≡ v → judge_told f p set held_room ≡ replied_for v (cond (verdict P (plays_of p)) 1 0 ∷ [])
+  judge_by : (t : Test) → judge_test P.n P.domain p set (room_needed P) held_room ≡ t → judge_told f p set held_room ≡ replied_for t (cond (verdict P (plays_of p)) 1 0 ∷ [])
   unfolding judge_told judge_reply
-  judge_by v e = read_fine f refused_at _ fine ∙ rw e refl
+  judge_by t e = read_fine f fault_told _ fine ∙ rw e refl
 
-  mark_by : (v : Verdict) → mark_test P.n P.domain p set (room_needed P) held_room ≡ v → mark_told f p set held_room ≡ replied_for v (winning_values P (plays_of p) ∷ get_or P.domain p.plays 0 ∷ [])
+  mark_by : (t : Test) → mark_test P.n P.domain p set (room_needed P) held_room ≡ t → mark_told f p set held_room ≡ replied_for t (winning_values P (plays_of p) ∷ get_or P.domain p.plays 0 ∷ [])
   unfolding mark_told mark_reply
-  mark_by v e = read_fine f refused_at _ fine ∙ rw e refl
+  mark_by t e = read_fine f fault_told _ fine ∙ rw e refl
 
   -- A rule set above 127.
   pub wide_rules : greatest_set < set → (judge_replied ≡ record { kind = 1; number = 8; place = 0; won = 0 }) × (mark_replied ≡ record { kind = 1; number = 8; place = 0; winning = 0; domain = 0 })
   unfolding judge_test mark_test replied_for judgement_of marks_of kind_of number_of place_of value_of
   wide_rules h =
       let r = rules-refused P.n P.domain p set h in
-      (ap judgement_of (judge_by (Not 8 0) (stop _ _ 8 0 r)), ap marks_of (mark_by (Not 8 0) (stop _ _ 8 0 r)))
+      (ap judgement_of (judge_by (Err Rules) (stop _ _ Rules r)), ap marks_of (mark_by (Err Rules) (stop _ _ Rules r)))
 
   -- More plays than variables.
   pub many_plays : set ≤ greatest_set → n_of f < p.plays → (judge_replied ≡ record { kind = 1; number = 23; place = 0; won = 0 }) × (mark_replied ≡ record { kind = 1; number = 23; place = 0; winning = 0; domain = 0 })
   unfolding judge_test mark_test replied_for judgement_of marks_of kind_of number_of place_of value_of
   many_plays h k =
       let r = plays_refused P.n P.domain p set h (omega (arith, problem_size f fine)) in
-      (ap judgement_of (judge_by (Not 23 0) (stop _ _ 23 0 r)), ap marks_of (mark_by (Not 23 0) (stop _ _ 23 0 r)))
+      (ap judgement_of (judge_by (Err Misfit) (stop _ _ Misfit r)), ap marks_of (mark_by (Err Misfit) (stop _ _ Misfit r)))
 
   -- Every position that fits is judged.
   pub judges : set ≤ greatest_set → T (fits_in p P.n P.domain) → judge_replied ≡ record { kind = 0; number = 0; place = 0; won = cond (verdict P (plays_of p)) 1 0 }
@@ -97,4 +96,4 @@ module _ (f : List ℕ) (fine : verdict_of f ≡ Fine) (p : Position) (set : ℕ
   unfolding mark_test replied_for marks_of kind_of number_of place_of value_of
   marks h t k =
       ap marks_of
-      (mark_by Fine (then_ok _ _ (position_taken P.n P.domain p set h t) (then_ok _ _ (need_ok _ _ _ (lt-ltb p.plays P.n (omega (arith, problem_size f fine)))) (room_held P size))))
+      (mark_by Fine (then_ok _ _ (position_taken P.n P.domain p set h t) (then_ok _ _ (need_ok _ _ (lt-ltb p.plays P.n (omega (arith, problem_size f fine)))) (room_held P size))))

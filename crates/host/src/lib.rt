@@ -35,13 +35,12 @@ use history::replay;
 use host_replies::{
     CallAnswer, CheckedList, FormulaJudgement, FoundRows, Judgement, LookedAhead, Marks,
     MovedPosition, OpenMasks, ReadFile, ReplayedCalls, RuledList, SearchFindings, ValueMask,
-    WrittenBytes, checked_shown, formula_shown, found_shown, judged_formula_shown, judged_shown,
-    looked_shown, marked_shown, moved_shown, opened_shown, reading_shown, replayed_shown,
-    ruled_shown, searched_shown, values_shown, written_shown,
+    WrittenBytes, moved_shown,
 };
 use judging::{judge, search};
 use marking::mark;
 use position::Position;
+use refusal::Refusal;
 use rule_entries::{arc, forward_check, interchangeable, look_ahead, pure};
 use search_run::ROOM;
 use session::{open_values, play, take_back};
@@ -61,10 +60,7 @@ pub extern "C" fn kb_interface() -> u64
 pub extern "C" fn kb_read(f: &[u8]) -> ReadFile
     ensures { result ≡ read_file_of (header_of f.now) (domains_of f.now) }
 {
-    let r = read(f);
-    let h = r.header;
-    let d = r.domains;
-    reading_shown(h, d)
+    ReadFile::from(read(f))
 }
 
 // Looks up the constraint of a pair.
@@ -72,7 +68,7 @@ pub extern "C" fn kb_read(f: &[u8]) -> ReadFile
 pub extern "C" fn kb_look_up(f: &[u8], i: u64, j: u64) -> FoundRows
     ensures { result ≡ found_of (look_up f.now i j) }
 {
-    found_shown(look_up(f, i as usize, j as usize))
+    FoundRows::from(look_up(f, i as usize, j as usize))
 }
 
 // Writes the file of these numbers; no rule set where `given` is 0.
@@ -94,16 +90,16 @@ pub extern "C" fn kb_write(
         ≡ write_buffer (handed n m (set_handed given rules) universal domains.now constraints.now)
         buf.old }
 {
-    let r = set_handed(given, rules);
-    written_shown(write(
+    let written = write(
         buf,
         n as usize,
         m as usize,
-        r,
+        set_handed(given, rules),
         universal,
         domains,
         constraints,
-    ))
+    );
+    WrittenBytes::from(written.map_err(Refusal::InCall))
 }
 
 // Writes what the judging program prints.
@@ -112,7 +108,7 @@ pub extern "C" fn kb_report(f: &[u8], buf: &mut [u8]) -> WrittenBytes
     ensures value { result ≡ written_of (text_told f.now (length buf.old)) }
     ensures buf_after { buf.new ≡ text_left f.now buf.old }
 {
-    written_shown(text_of(f, buf))
+    WrittenBytes::from(text_of(f, buf).map_err(Refusal::InCall))
 }
 
 // Plays this value of the next variable.
@@ -120,7 +116,7 @@ pub extern "C" fn kb_report(f: &[u8], buf: &mut [u8]) -> WrittenBytes
 pub extern "C" fn kb_play(f: &[u8], p: Position, value: u64) -> MovedPosition
     ensures { result ≡ moved_of (play_told f.now p value) (play_left f.now p value) }
 {
-    moved_shown(play(f, p, value as usize))
+    moved_shown(p, play(f, p, value as usize))
 }
 
 // Takes the last play back.
@@ -128,7 +124,7 @@ pub extern "C" fn kb_play(f: &[u8], p: Position, value: u64) -> MovedPosition
 pub extern "C" fn kb_take_back(f: &[u8], p: Position) -> MovedPosition
     ensures { result ≡ moved_of (take_back_told f.now p) (take_back_left f.now p) }
 {
-    moved_shown(take_back(f, p))
+    moved_shown(p, take_back(f, p))
 }
 
 // The same play on a session: one record, which the call alters; refused, it stays as it is.
@@ -137,10 +133,9 @@ pub extern "C" fn kb_session_play(f: &[u8], s: &mut Position, value: u64) -> Cal
     ensures { (result ≡ answer_of (play_told f.now s.old value))
         × (s.new ≡ play_left f.now s.old value) }
 {
-    let p = *s;
-    let d = kb_play(f, p, value);
-    *s = d.position;
-    d.answer
+    let moved = kb_play(f, *s, value);
+    *s = moved.position;
+    moved.answer
 }
 
 // The same take-back on a session.
@@ -149,10 +144,9 @@ pub extern "C" fn kb_session_take_back(f: &[u8], s: &mut Position) -> CallAnswer
     ensures { (result ≡ answer_of (take_back_told f.now s.old))
         × (s.new ≡ take_back_left f.now s.old) }
 {
-    let p = *s;
-    let d = kb_take_back(f, p);
-    *s = d.position;
-    d.answer
+    let moved = kb_take_back(f, *s);
+    *s = moved.position;
+    moved.answer
 }
 
 // The open values of every variable.
@@ -160,7 +154,7 @@ pub extern "C" fn kb_session_take_back(f: &[u8], s: &mut Position) -> CallAnswer
 pub extern "C" fn kb_open(f: &[u8], p: Position) -> OpenMasks
     ensures { result ≡ opened_of (open_told f.now p) (masks_shown f.now p) (counts_shown f.now p) }
 {
-    opened_shown(open_values(f, p))
+    OpenMasks::from(open_values(f, p))
 }
 
 // Whether a position is won, under the rule set of this number.
@@ -178,7 +172,7 @@ pub extern "C" fn kb_judge(
 {
     let mut room = [0u16; ROOM];
     let p = unpacked(plays, a, b, c, d);
-    judged_shown(judge(f, p, set as usize, &mut room))
+    Judgement::from(judge(f, p, set as usize, &mut room))
 }
 
 // The winning values of the next variable, under the rule set of this number.
@@ -188,7 +182,7 @@ pub extern "C" fn kb_mark(f: &[u8], plays: u64, a: u64, b: u64, c: u64, d: u64, 
 {
     let mut room = [0u16; ROOM];
     let p = unpacked(plays, a, b, c, d);
-    marked_shown(mark(f, p, set as usize, &mut room))
+    Marks::from(mark(f, p, set as usize, &mut room))
 }
 
 // The same of a position by value, in lent room.
@@ -197,7 +191,7 @@ pub extern "C" fn kb_judge_in(f: &[u8], p: Position, set: u64, room: &mut [u16])
     ensures value { result ≡ judgement_of (judge_told f.now p set (length room.old)) }
     ensures room_after { room.new ≡ judge_left f.now p set room.old }
 {
-    judged_shown(judge(f, p, set as usize, room))
+    Judgement::from(judge(f, p, set as usize, room))
 }
 
 #[unsafe(no_mangle)]
@@ -205,7 +199,7 @@ pub extern "C" fn kb_mark_in(f: &[u8], p: Position, set: u64, room: &mut [u16]) 
     ensures value { result ≡ marks_of (mark_told f.now p set (length room.old)) }
     ensures room_after { room.new ≡ mark_left f.now p set room.old }
 {
-    marked_shown(mark(f, p, set as usize, room))
+    Marks::from(mark(f, p, set as usize, room))
 }
 
 // What a search finds, under the rule set of this number.
@@ -214,7 +208,7 @@ pub extern "C" fn kb_search(f: &[u8], p: Position, set: u64) -> SearchFindings
     ensures { result ≡ searched_of (search_found f.now p set held_room) }
 {
     let mut room = [0u16; ROOM];
-    searched_shown(search(f, p, set as usize, &mut room))
+    SearchFindings::from(search(f, p, set as usize, &mut room))
 }
 
 // The marks and the open values that calls reach, each a byte.
@@ -223,7 +217,7 @@ pub extern "C" fn kb_replay(f: &[u8], calls: &[u8], set: u64) -> ReplayedCalls
     ensures { result ≡ replay_of f.now calls.now set }
 {
     let mut room = [0u16; ROOM];
-    replayed_shown(replay(f, calls, set as usize, &mut room))
+    ReplayedCalls::from(replay(f, calls, set as usize, &mut room))
 }
 
 // Rule 1 on a lent list.
@@ -232,7 +226,7 @@ pub extern "C" fn kb_arc(f: &[u8], list: &mut [u16]) -> RuledList
     ensures value { result ≡ ruled_of (arc_told f.now list.old) }
     ensures list_after { list.new ≡ arc_left f.now list.old }
 {
-    ruled_shown(arc(f, list))
+    RuledList::from(arc(f, list))
 }
 
 // Rule 2, for value a of variable x.
@@ -241,7 +235,7 @@ pub extern "C" fn kb_forward_check(f: &[u8], list: &mut [u16], x: u64, a: u64) -
     ensures value { result ≡ checked_of (forward_told f.now list.old x a) }
     ensures list_after { list.new ≡ forward_left f.now list.old x a }
 {
-    checked_shown(forward_check(f, list, x as usize, a as usize))
+    CheckedList::from(forward_check(f, list, x as usize, a as usize))
 }
 
 // Rule 3, at variable x.
@@ -249,7 +243,7 @@ pub extern "C" fn kb_forward_check(f: &[u8], list: &mut [u16], x: u64, a: u64) -
 pub extern "C" fn kb_look_ahead(f: &[u8], list: &[u16], x: u64) -> LookedAhead
     ensures { result ≡ looked_of (ahead_told f.now list.now x) }
 {
-    looked_shown(look_ahead(f, list, x as usize))
+    LookedAhead::from(look_ahead(f, list, x as usize))
 }
 
 // Rule 4, at variable x.
@@ -257,7 +251,7 @@ pub extern "C" fn kb_look_ahead(f: &[u8], list: &[u16], x: u64) -> LookedAhead
 pub extern "C" fn kb_pure(f: &[u8], list: &[u16], x: u64) -> ValueMask
     ensures { result ≡ values_of (pure_told f.now list.now x) }
 {
-    values_shown(pure(f, list, x as usize))
+    ValueMask::from(pure(f, list, x as usize))
 }
 
 // Rule 5, at variable x.
@@ -265,7 +259,7 @@ pub extern "C" fn kb_pure(f: &[u8], list: &[u16], x: u64) -> ValueMask
 pub extern "C" fn kb_interchangeable(f: &[u8], list: &[u16], x: u64) -> ValueMask
     ensures { result ≡ values_of (interchangeable_told f.now list.now x) }
 {
-    values_shown(interchangeable(f, list, x as usize))
+    ValueMask::from(interchangeable(f, list, x as usize))
 }
 
 // Writes the text of the problem's formula.
@@ -274,7 +268,7 @@ pub extern "C" fn kb_formula(f: &[u8], buf: &mut [u8]) -> WrittenBytes
     ensures value { result ≡ written_of (formula_told f.now (length buf.old)) }
     ensures buf_after { buf.new ≡ formula_left f.now buf.old }
 {
-    formula_shown(write_formula(f, buf))
+    WrittenBytes::from(write_formula(f, buf))
 }
 
 // Writes it and judges that text.
@@ -283,5 +277,5 @@ pub extern "C" fn kb_judge_formula(f: &[u8], buf: &mut [u8]) -> FormulaJudgement
     ensures value { result ≡ formula_judgement_of (judge_formula_told f.now (length buf.old)) }
     ensures buf_after { buf.new ≡ formula_left f.now buf.old }
 {
-    judged_formula_shown(judge_formula(f, buf))
+    FormulaJudgement::from(judge_formula(f, buf))
 }

@@ -18,10 +18,8 @@ pub fn unpacked(plays: u64, a: u64, b: u64, c: u64, d: u64) -> Position
 {
     let words = [a, b, c, d];
     let mut values = [0u8; 32];
-    let mut k: usize = 0;
-    while k < 32 {
+    for k in 0..32 {
         values[k] = byte_of(words[k / 8], k % 8);
-        k += 1;
     }
     Position {
         plays: plays as usize,

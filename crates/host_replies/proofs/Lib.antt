@@ -1,4 +1,4 @@
 -- Laws of the replies.
 
--- Replies put together from the fields of another.
+-- Each reply by its fields, as the code makes them of an answer.
 pub mod ReplyLaws

@@ -1,48 +1,148 @@
--- Replies put together from the fields of another.
-use mathlib.Core.Path.{◌≡◌, refl, ap, ◌∙◌}
+-- Each reply as the code makes it of an answer: kind, number and place of the answer, the values of a finished one, and else zeros.
+use mathlib.Core.Path.{◌≡◌, refl}
 use mathlib.Core.Bool.{Bool, true, false, cond}
-use mathlib.Core.List.{List, []}
+use mathlib.Core.List.{List, [], ◌∷◌}
 use Prim.Native.Nat.{ℕ}
 use mir.Val.{bool_byte}
-use Rattle.judging.specs.declared.Searched.{Searched}
-use Rattle.judging.specs.Judging.{told as told_judged}
-use Rattle.judging.specs.Searching.{found}
-use Rattle.session.specs.declared.Answer.{Answer}
-use Rattle.session.specs.declared.Answer.TheVariants.{Done, Refused, RefusedAt}
+use lib.ListN.{replicate}
+use Rattle.std.specs.Prelude.{Result, Ok, Err, Option, None, Some, unwrap_or, is_some}
+use Rattle.std.specs.Result.{result_unwrap_or}
+use Rattle.refusal.specs.declared.reason.Refusal.{Refusal}
+use Rattle.refusal.specs.declared.reason.Refusal.TheVariants.{InFile, InCall}
+use Rattle.refusal.specs.Told.{refusal_told, told_by}
+use Rattle.file_lookup.specs.Lookup.{told as toldFound}
+use Rattle.game.specs.Lists.{spread}
 use Rattle.session.specs.declared.Opened.{Opened}
-use Rattle.session.specs.Told.{told_with, told, told_opened}
+use Rattle.session.specs.Told.{told_opened, masks_in, counts_in}
+use Rattle.search_run.specs.declared.Ran.{Ran}
+use Rattle.judging.specs.Judging.{told as toldJudged}
+use Rattle.judging.specs.Searching.{found, findings_of, nothing}
+use Rattle.marking.specs.declared.Marks.{Marks as Marked}
+use Rattle.marking.specs.Marking.{told as toldMarked}
+use Rattle.rule_forward.specs.declared.steps.Ahead.{Ahead}
+use Rattle.rule_entries.specs.Alone.{told as toldRuled, told_check, told_look, told_values}
+use Rattle.formula_entries.specs.declared.JudgedFormula.{JudgedFormula}
+use Rattle.formula_entries.specs.Told.{told_judged}
+use Rattle.host_replies.specs.declared.files.FoundRows.{FoundRows}
+use Rattle.host_replies.specs.declared.files.WrittenBytes.{WrittenBytes}
 use Rattle.host_replies.specs.declared.calls.CallAnswer.{CallAnswer}
 use Rattle.host_replies.specs.declared.calls.OpenMasks.{OpenMasks}
+use Rattle.host_replies.specs.declared.formula_judgements.FormulaJudgement.{FormulaJudgement}
 use Rattle.host_replies.specs.declared.games.Judgement.{Judgement}
+use Rattle.host_replies.specs.declared.games.Marks.{Marks}
 use Rattle.host_replies.specs.declared.games.SearchFindings.{SearchFindings}
-use Rattle.host_replies.specs.Replies.{kind_of, number_of, place_of, answer_of, opened_of, judgement_of, searched_of}
+use Rattle.host_replies.specs.declared.arcs.RuledList.{RuledList}
+use Rattle.host_replies.specs.declared.checks.CheckedList.{CheckedList}
+use Rattle.host_replies.specs.declared.looks.LookedAhead.{LookedAhead}
+use Rattle.host_replies.specs.declared.values.ValueMask.{ValueMask}
+use Rattle.host_replies.specs.Replies.{kind_of, number_of, place_of, value_of, count_from, found_of, written_of, answer_of, opened_of, judgement_of, marks_of, searched_of, ruled_of, checked_of, looked_of, values_of, formula_judgement_of}
 
--- What is told of the open values has the kind, the number and the place of its answer, whatever values come with it.
-same_answer : (x y : List ℕ) (a : Answer) → answer_of (told_with x a) ≡ answer_of (told_with y a)
-unfolding told_with answer_of kind_of number_of place_of
-same_answer x y Done = refl
-same_answer x y (Refused e) = refl
-same_answer x y (RefusedAt e p) = refl
+-- Kind, number and place of an answer.
+abbrev pub head_of : {A : Type 0} → Result A Refusal → CallAnswer
+head_of r = answer_of (told_by (λ x. []) refusal_told r)
 
-abbrev pub opened_by : CallAnswer → List ℕ → List ℕ → OpenMasks
-opened_by a masks counts = record { kind = a.kind; number = a.number; place = a.place; masks = masks; counts = counts }
+pub found_rows : (r : Result (Option ℕ) Refusal) →
+    let a = head_of r in
+    let rows = result_unwrap_or r None in
+    ◌≡◌ {A = FoundRows} (record { kind = a.kind; number = a.number; place = a.place; found = bool_byte (is_some rows); rows = unwrap_or rows 0 }) (found_of (toldFound r))
+unfolding found_of answer_of kind_of number_of place_of value_of count_from
+found_rows (Ok None) = refl
+found_rows (Ok (Some p)) = refl
+found_rows (Err (InFile f)) = refl
+found_rows (Err (InCall e)) = refl
 
-pub opened_by_lem : (o : Opened) (a : CallAnswer) → a ≡ answer_of (told o.answer) → opened_by a o.masks o.counts ≡ opened_of (told_opened o) o.masks o.counts
-unfolding told told_opened answer_of opened_of
-opened_by_lem o a e = ap (λ (b : CallAnswer). opened_by b o.masks o.counts) (e ∙ same_answer [] _ o.answer)
+pub written_bytes : (r : Result ℕ Refusal) →
+    let a = head_of r in
+    ◌≡◌ {A = WrittenBytes} (record { kind = a.kind; number = a.number; place = a.place; length = result_unwrap_or r 0 }) (written_of (told_by (λ k. k ∷ []) refusal_told r))
+unfolding written_of answer_of kind_of number_of place_of value_of
+written_bytes (Ok k) = refl
+written_bytes (Err (InFile f)) = refl
+written_bytes (Err (InCall e)) = refl
 
--- A search's reply begins as a judgement; its loss is a flag.
+pub open_masks : (r : Result Opened Refusal) →
+    let a = head_of r in
+    let o = result_unwrap_or r (record { masks = replicate 32 0; counts = replicate 32 0 }) in
+    ◌≡◌ {A = OpenMasks} (record { kind = a.kind; number = a.number; place = a.place; masks = o.masks; counts = o.counts }) (opened_of (told_opened r) (masks_in r) (counts_in r))
+unfolding told_opened masks_in counts_in opened_of answer_of kind_of number_of place_of
+open_masks (Ok o) = refl
+open_masks (Err (InFile f)) = refl
+open_masks (Err (InCall e)) = refl
+
+pub judgement : (r : Result Bool Refusal) →
+    let a = head_of r in
+    ◌≡◌ {A = Judgement} (record { kind = a.kind; number = a.number; place = a.place; won = bool_byte (result_unwrap_or r false) }) (judgement_of (toldJudged r))
+unfolding judgement_of answer_of kind_of number_of place_of value_of
+judgement (Ok true) = refl
+judgement (Ok false) = refl
+judgement (Err (InFile f)) = refl
+judgement (Err (InCall e)) = refl
+
+pub marks : (r : Result Marked Refusal) →
+    let a = head_of r in
+    let m = result_unwrap_or r (record { winning = 0; domain = 0 }) in
+    ◌≡◌ {A = Marks} (record { kind = a.kind; number = a.number; place = a.place; winning = m.winning; domain = m.domain }) (marks_of (toldMarked r))
+unfolding marks_of answer_of kind_of number_of place_of value_of
+marks (Ok m) = refl
+marks (Err (InFile f)) = refl
+marks (Err (InCall e)) = refl
+
+-- A flag as a number.
 flag : (b : Bool) → bool_byte b ≡ cond b 1 0
 flag true = refl
 flag false = refl
 
-abbrev pub searched_by : Judgement → ℕ → ℕ → List ℕ → List ℕ → SearchFindings
-searched_by j loss conflict list leaf =
-    record { kind = j.kind; number = j.number; place = j.place; won = j.won; loss = loss; conflict = conflict; list = list; leaf = leaf }
+pub findings : (r : Result Ran Refusal) →
+    let a = head_of r in
+    let s = result_unwrap_or r (record { loss = false; list = replicate 32 0; won = false; conflict = 0; leaf = replicate 32 0 }) in
+    ◌≡◌ {A = SearchFindings} (record { kind = a.kind; number = a.number; place = a.place; won = bool_byte s.won; loss = bool_byte s.loss; conflict = s.conflict; list = s.list; leaf = s.leaf }) (searched_of (found r))
+unfolding spread findings_of nothing searched_of answer_of kind_of number_of place_of value_of
+findings (Ok s) = rw (flag s.won, flag s.loss) refl
+findings (Err (InFile f)) = refl
+findings (Err (InCall e)) = refl
 
-pub searched_by_lem : (s : Searched) (j : Judgement) → j ≡ judgement_of (told_judged s.judged)
-    → searched_by j (bool_byte s.loss) s.conflict s.list s.leaf ≡ searched_of (found s)
-unfolding found judgement_of searched_of
-searched_by_lem s j e =
-    ap (λ (i : Judgement). searched_by i (bool_byte s.loss) s.conflict s.list s.leaf) e
-    ∙ ap (λ (l : ℕ). searched_by (judgement_of (told_judged s.judged)) l s.conflict s.list s.leaf) (flag s.loss)
+pub ruled_list : (r : Result Bool Refusal) →
+    let a = head_of r in
+    ◌≡◌ {A = RuledList} (record { kind = a.kind; number = a.number; place = a.place; lost = bool_byte (result_unwrap_or r false) }) (ruled_of (toldRuled r))
+unfolding ruled_of answer_of kind_of number_of place_of value_of
+ruled_list (Ok true) = refl
+ruled_list (Ok false) = refl
+ruled_list (Err (InFile f)) = refl
+ruled_list (Err (InCall e)) = refl
+
+pub checked_list : (r : Result (Option ℕ) Refusal) →
+    let a = head_of r in
+    let named = result_unwrap_or r None in
+    ◌≡◌ {A = CheckedList} (record { kind = a.kind; number = a.number; place = a.place; lost = bool_byte (is_some named); variable = unwrap_or named 0 }) (checked_of (told_check r))
+unfolding checked_of answer_of kind_of number_of place_of value_of
+checked_list (Ok None) = refl
+checked_list (Ok (Some j)) = refl
+checked_list (Err (InFile f)) = refl
+checked_list (Err (InCall e)) = refl
+
+pub looked_ahead : (r : Result (Option Ahead) Refusal) →
+    let a = head_of r in
+    let named = result_unwrap_or r None in
+    let h = unwrap_or named (record { value = 0; variable = 0 }) in
+    ◌≡◌ {A = LookedAhead} (record { kind = a.kind; number = a.number; place = a.place; lost = bool_byte (is_some named); value = h.value; variable = h.variable }) (looked_of (told_look r))
+unfolding looked_of answer_of kind_of number_of place_of value_of
+looked_ahead (Ok None) = refl
+looked_ahead (Ok (Some h)) = refl
+looked_ahead (Err (InFile f)) = refl
+looked_ahead (Err (InCall e)) = refl
+
+pub value_mask : (r : Result ℕ Refusal) →
+    let a = head_of r in
+    ◌≡◌ {A = ValueMask} (record { kind = a.kind; number = a.number; place = a.place; values = result_unwrap_or r 0 }) (values_of (told_values r))
+unfolding values_of answer_of kind_of number_of place_of value_of
+value_mask (Ok m) = refl
+value_mask (Err (InFile f)) = refl
+value_mask (Err (InCall e)) = refl
+
+pub formula_judgement : (r : Result JudgedFormula Refusal) →
+    let a = head_of r in
+    let j = result_unwrap_or r (record { won = false; length = 0 }) in
+    ◌≡◌ {A = FormulaJudgement} (record { kind = a.kind; number = a.number; place = a.place; won = bool_byte j.won; length = j.length }) (formula_judgement_of (told_judged r))
+unfolding formula_judgement_of answer_of kind_of number_of place_of value_of
+formula_judgement (Ok j) = rw (flag j.won) refl
+formula_judgement (Err (InFile f)) = refl
+formula_judgement (Err (InCall e)) = refl

@@ -3,7 +3,8 @@ ghost use Rattle.std.specs.Prelude.{◌≡◌};
 ghost use Rattle.rule_entries.specs.Alone.{told as toldRuled};
 ghost use Rattle.host_replies.specs.Replies.{ruled_of};
 
-use rule_entries::Ruled;
+use crate::calls::CallAnswer;
+use refusal::Refusal;
 
 // Whether rule 1 found a loss.
 #[repr(C)]
@@ -15,33 +16,16 @@ pub struct RuledList {
     pub lost: u64,
 }
 
-pub fn ruled_shown(r: Ruled) -> RuledList
-    ensures { result ≡ ruled_of (toldRuled r) }
-{
-    match r {
-        Ruled::Stands => RuledList {
-            kind: 0,
-            number: 0,
-            place: 0,
-            lost: 0,
-        },
-        Ruled::Lost => RuledList {
-            kind: 0,
-            number: 0,
-            place: 0,
-            lost: 1,
-        },
-        Ruled::Refused(number) => RuledList {
-            kind: 1,
-            number: number as u64,
-            place: 0,
-            lost: 0,
-        },
-        Ruled::RefusedAt(number, place) => RuledList {
-            kind: 2,
-            number: number as u64,
-            place: place as u64,
-            lost: 0,
-        },
+impl From<Result<bool, Refusal>> for RuledList {
+    ghost from_gives = { λ answer reply. reply ≡ ruled_of (toldRuled answer) };
+
+    fn from(answer: Result<bool, Refusal>) -> RuledList {
+        let a = CallAnswer::from(answer);
+        RuledList {
+            kind: a.kind,
+            number: a.number,
+            place: a.place,
+            lost: answer.unwrap_or(false) as u64,
+        }
     }
 }

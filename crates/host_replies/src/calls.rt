@@ -1,10 +1,12 @@
 // Replies of a play, a take-back and the open values.
-ghost use Rattle.std.specs.Prelude.{◌≡◌};
-ghost use Rattle.session.specs.Told.{told, told_opened};
+ghost use Rattle.std.specs.Prelude.{◌≡◌, []};
+ghost use Rattle.refusal.specs.Told.{refusal_told, told_by};
+ghost use Rattle.session.specs.Told.{told, left, told_opened, masks_in, counts_in};
 ghost use Rattle.host_replies.specs.Replies.{answer_of, moved_of, opened_of};
 
 use position::Position;
-use session::{Answer, Opened, Played};
+use refusal::Refusal;
+use session::{Opened, left};
 
 #[repr(C)]
 #[derive(Clone, Copy)]
@@ -32,51 +34,56 @@ pub struct OpenMasks {
     pub counts: [u8; 32],
 }
 
-fn answer_shown(a: Answer) -> CallAnswer
-    ensures { result ≡ answer_of (told a) }
-{
-    match a {
-        Answer::Done => CallAnswer {
-            kind: 0,
-            number: 0,
-            place: 0,
-        },
-        Answer::Refused(number) => CallAnswer {
-            kind: 1,
-            number: number as u64,
-            place: 0,
-        },
-        Answer::RefusedAt(number, place) => CallAnswer {
-            kind: 2,
-            number: number as u64,
-            place: place as u64,
-        },
+// Any call's answer, without the values of a finished one.
+impl<T: Copy> From<Result<T, Refusal>> for CallAnswer {
+    ghost from_gives = { λ answer reply. reply ≡ answer_of (told_by (λ x. []) refusal_told answer) };
+
+    fn from(answer: Result<T, Refusal>) -> CallAnswer {
+        match answer {
+            Ok(_) => CallAnswer {
+                kind: 0,
+                number: 0,
+                place: 0,
+            },
+            Err(Refusal::InCall(reason)) => CallAnswer {
+                kind: 1,
+                number: u8::from(reason) as u64,
+                place: 0,
+            },
+            Err(Refusal::InFile(fault)) => CallAnswer {
+                kind: 2,
+                number: u8::from(fault.reason) as u64,
+                place: fault.place as u64,
+            },
+        }
     }
 }
 
-pub fn moved_shown(p: Played) -> MovedPosition
-    ensures { result ≡ moved_of (told p.answer) p.position }
+// What a play or a take-back at p replies.
+pub fn moved_shown(p: Position, answer: Result<Position, Refusal>) -> MovedPosition
+    ensures { result ≡ moved_of (told answer) (left p answer) }
 {
-    let answer = p.answer;
-    let position = p.position;
     MovedPosition {
-        answer: answer_shown(answer),
-        position: position,
+        answer: CallAnswer::from(answer),
+        position: left(p, answer),
     }
 }
 
-pub fn opened_shown(o: Opened) -> OpenMasks
-    ensures { result ≡ opened_of (told_opened o) o.masks o.counts }
-{
-    let answer = o.answer;
-    let masks = o.masks;
-    let counts = o.counts;
-    let a = answer_shown(answer);
-    OpenMasks {
-        kind: a.kind,
-        number: a.number,
-        place: a.place,
-        masks: masks,
-        counts: counts,
+impl From<Result<Opened, Refusal>> for OpenMasks {
+    ghost from_gives = { λ answer reply. reply ≡ opened_of (told_opened answer) (masks_in answer) (counts_in answer) };
+
+    fn from(answer: Result<Opened, Refusal>) -> OpenMasks {
+        let a = CallAnswer::from(answer);
+        let Opened { masks, counts } = answer.unwrap_or(Opened {
+            masks: [0; 32],
+            counts: [0; 32],
+        });
+        OpenMasks {
+            kind: a.kind,
+            number: a.number,
+            place: a.place,
+            masks: masks,
+            counts: counts,
+        }
     }
 }

@@ -3,7 +3,8 @@ ghost use Rattle.std.specs.Prelude.{◌≡◌};
 ghost use Rattle.rule_entries.specs.Alone.{told_check};
 ghost use Rattle.host_replies.specs.Replies.{checked_of};
 
-use rule_entries::Check;
+use crate::calls::CallAnswer;
+use refusal::Refusal;
 
 // Whether rule 2 found a loss, and the variable that it names.
 #[repr(C)]
@@ -16,37 +17,18 @@ pub struct CheckedList {
     pub variable: u64,
 }
 
-pub fn checked_shown(r: Check) -> CheckedList
-    ensures { result ≡ checked_of (told_check r) }
-{
-    match r {
-        Check::Stands => CheckedList {
-            kind: 0,
-            number: 0,
-            place: 0,
-            lost: 0,
-            variable: 0,
-        },
-        Check::Lost(variable) => CheckedList {
-            kind: 0,
-            number: 0,
-            place: 0,
-            lost: 1,
-            variable: variable as u64,
-        },
-        Check::Refused(number) => CheckedList {
-            kind: 1,
-            number: number as u64,
-            place: 0,
-            lost: 0,
-            variable: 0,
-        },
-        Check::RefusedAt(number, place) => CheckedList {
-            kind: 2,
-            number: number as u64,
-            place: place as u64,
-            lost: 0,
-            variable: 0,
-        },
+impl From<Result<Option<usize>, Refusal>> for CheckedList {
+    ghost from_gives = { λ answer reply. reply ≡ checked_of (told_check answer) };
+
+    fn from(answer: Result<Option<usize>, Refusal>) -> CheckedList {
+        let a = CallAnswer::from(answer);
+        let named = answer.unwrap_or(None);
+        CheckedList {
+            kind: a.kind,
+            number: a.number,
+            place: a.place,
+            lost: named.is_some() as u64,
+            variable: named.unwrap_or(0) as u64,
+        }
     }
 }

@@ -1,14 +1,13 @@
-// Replies of reading, look-up and writer.
-ghost use Rattle.std.specs.Prelude.{◌≡◌, length};
-ghost use Rattle.file_reader.specs.Reading.{rule_numbers, told as toldHeader};
+// Replies of reading, look-up, and of what writes bytes into a buffer.
+ghost use Rattle.std.specs.Prelude.{◌≡◌, [], ◌∷◌};
+ghost use Rattle.refusal.specs.Told.{refusal_told, told_by};
+ghost use Rattle.file_reader.specs.Reading.{told as toldHeader, domains_shown};
 ghost use Rattle.file_lookup.specs.Lookup.{told as toldFound};
-ghost use Rattle.file_writer.specs.Writing.{told as toldWritten};
 ghost use Rattle.host_replies.specs.Replies.{read_file_of, found_of, written_of};
 
-use file_layout::Rules;
-use file_lookup::Found;
-use file_reader::{Header, rules_used};
-use file_writer::Written;
+use crate::calls::CallAnswer;
+use file_reader::{Reading, rules_used};
+use refusal::{Fault, Refusal};
 
 #[repr(C)]
 #[derive(Clone, Copy)]
@@ -45,98 +44,68 @@ pub struct WrittenBytes {
     pub length: u64,
 }
 
-// How many rule sets a file names: none or one.
-fn named(rules: Rules) -> u64
-    ensures { result ≡ length (rule_numbers rules) }
-{
-    match rules {
-        Rules::Absent => 0,
-        Rules::Given(_) => 1,
-    }
-}
+impl From<Result<Reading, Fault>> for ReadFile {
+    ghost from_gives = { λ answer reply. reply ≡ read_file_of (toldHeader answer) (domains_shown answer) };
 
-pub fn reading_shown(h: Header, domains: [u16; 32]) -> ReadFile
-    ensures { result ≡ read_file_of (toldHeader h) domains }
-{
-    match h {
-        Header::Refused(number, place) => ReadFile {
-            kind: 2,
-            number: number as u64,
-            place: place as u64,
-            n: 0,
-            m: 0,
-            universal: 0,
-            given: 0,
-            rules: 0,
-            domains: domains,
-        },
-        Header::Accepted(head) => {
-            let rules = head.rules;
-            ReadFile {
-                kind: 0,
-                number: 0,
-                place: 0,
-                n: head.n as u64,
-                m: head.m as u64,
-                universal: head.universal as u64,
-                given: named(rules),
-                rules: rules_used(rules) as u64,
-                domains: domains,
+    fn from(answer: Result<Reading, Fault>) -> ReadFile {
+        match answer {
+            Ok(r) => {
+                let head = r.head;
+                let rules = head.rules;
+                let domains = r.domains;
+                ReadFile {
+                    kind: 0,
+                    number: 0,
+                    place: 0,
+                    n: head.n as u64,
+                    m: head.m as u64,
+                    universal: head.universal as u64,
+                    given: rules.is_some() as u64,
+                    rules: rules_used(rules) as u64,
+                    domains: domains,
+                }
             }
+            Err(fault) => ReadFile {
+                kind: 2,
+                number: u8::from(fault.reason) as u64,
+                place: fault.place as u64,
+                n: 0,
+                m: 0,
+                universal: 0,
+                given: 0,
+                rules: 0,
+                domains: [0; 32],
+            },
         }
     }
 }
 
-pub fn found_shown(f: Found) -> FoundRows
-    ensures { result ≡ found_of (toldFound f) }
-{
-    match f {
-        Found::Rows(p) => FoundRows {
-            kind: 0,
-            number: 0,
-            place: 0,
-            found: 1,
-            rows: p as u64,
-        },
-        Found::Free => FoundRows {
-            kind: 0,
-            number: 0,
-            place: 0,
-            found: 0,
-            rows: 0,
-        },
-        Found::Refused(number) => FoundRows {
-            kind: 1,
-            number: number as u64,
-            place: 0,
-            found: 0,
-            rows: 0,
-        },
-        Found::RefusedAt(number, place) => FoundRows {
-            kind: 2,
-            number: number as u64,
-            place: place as u64,
-            found: 0,
-            rows: 0,
-        },
+impl From<Result<Option<usize>, Refusal>> for FoundRows {
+    ghost from_gives = { λ answer reply. reply ≡ found_of (toldFound answer) };
+
+    fn from(answer: Result<Option<usize>, Refusal>) -> FoundRows {
+        let a = CallAnswer::from(answer);
+        let rows = answer.unwrap_or(None);
+        FoundRows {
+            kind: a.kind,
+            number: a.number,
+            place: a.place,
+            found: rows.is_some() as u64,
+            rows: rows.unwrap_or(0) as u64,
+        }
     }
 }
 
-pub fn written_shown(w: Written) -> WrittenBytes
-    ensures { result ≡ written_of (toldWritten w) }
-{
-    match w {
-        Written::Length(k) => WrittenBytes {
-            kind: 0,
-            number: 0,
-            place: 0,
-            length: k as u64,
-        },
-        Written::Refused(number) => WrittenBytes {
-            kind: 1,
-            number: number as u64,
-            place: 0,
-            length: 0,
-        },
+impl From<Result<usize, Refusal>> for WrittenBytes {
+    ghost from_gives = { λ answer reply. reply ≡ written_of (told_by (λ k. k ∷ []) refusal_told answer) };
+
+    fn from(answer: Result<usize, Refusal>) -> WrittenBytes {
+        let a = CallAnswer::from(answer);
+        WrittenBytes {
+            kind: a.kind,
+            number: a.number,
+            place: a.place,
+            length: answer.unwrap_or(0) as u64,
+        }
     }
 }

@@ -3,7 +3,9 @@ ghost use Rattle.std.specs.Prelude.{◌≡◌};
 ghost use Rattle.formula_entries.specs.Told.{told_judged};
 ghost use Rattle.host_replies.specs.Replies.{formula_judgement_of};
 
+use crate::calls::CallAnswer;
 use formula_entries::JudgedFormula;
+use refusal::Refusal;
 
 // Whether the formula is won, and how many bytes its text has.
 #[repr(C)]
@@ -16,37 +18,21 @@ pub struct FormulaJudgement {
     pub length: u64,
 }
 
-pub fn judged_formula_shown(j: JudgedFormula) -> FormulaJudgement
-    ensures { result ≡ formula_judgement_of (told_judged j) }
-{
-    match j {
-        JudgedFormula::Won(k) => FormulaJudgement {
-            kind: 0,
-            number: 0,
-            place: 0,
-            won: 1,
-            length: k as u64,
-        },
-        JudgedFormula::Lost(k) => FormulaJudgement {
-            kind: 0,
-            number: 0,
-            place: 0,
-            won: 0,
-            length: k as u64,
-        },
-        JudgedFormula::Refused(number) => FormulaJudgement {
-            kind: 1,
-            number: number as u64,
-            place: 0,
-            won: 0,
+impl From<Result<JudgedFormula, Refusal>> for FormulaJudgement {
+    ghost from_gives = { λ answer reply. reply ≡ formula_judgement_of (told_judged answer) };
+
+    fn from(answer: Result<JudgedFormula, Refusal>) -> FormulaJudgement {
+        let a = CallAnswer::from(answer);
+        let j = answer.unwrap_or(JudgedFormula {
+            won: false,
             length: 0,
-        },
-        JudgedFormula::RefusedAt(number, place) => FormulaJudgement {
-            kind: 2,
-            number: number as u64,
-            place: place as u64,
-            won: 0,
-            length: 0,
-        },
+        });
+        FormulaJudgement {
+            kind: a.kind,
+            number: a.number,
+            place: a.place,
+            won: j.won as u64,
+            length: j.length as u64,
+        }
     }
 }

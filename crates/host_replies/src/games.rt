@@ -3,13 +3,13 @@ ghost use Rattle.std.specs.Prelude.{◌≡◌};
 ghost use Rattle.judging.specs.Judging.{told as told_judged};
 ghost use Rattle.judging.specs.Searching.{found};
 ghost use Rattle.marking.specs.Marking.{told as toldMarked};
-ghost use Rattle.session.specs.Told.{told_opened};
+ghost use Rattle.session.specs.Told.{told_opened, masks_in, counts_in};
 ghost use Rattle.host_replies.specs.Replies.{judgement_of, marks_of, opened_of, replayed_of, searched_of};
 
-use crate::calls::{OpenMasks, opened_shown};
+use crate::calls::{CallAnswer, OpenMasks};
 use history::Replayed;
-use judging::{Judged, Searched};
-use marking::Marked;
+use refusal::Refusal;
+use search_run::Ran;
 
 #[repr(C)]
 #[derive(Clone, Copy)]
@@ -51,92 +51,78 @@ pub struct SearchFindings {
     pub leaf: [u16; 32],
 }
 
-pub fn judged_shown(j: Judged) -> Judgement
-    ensures { result ≡ judgement_of (told_judged j) }
-{
-    match j {
-        Judged::Won => Judgement {
-            kind: 0,
-            number: 0,
-            place: 0,
-            won: 1,
-        },
-        Judged::Lost => Judgement {
-            kind: 0,
-            number: 0,
-            place: 0,
-            won: 0,
-        },
-        Judged::Refused(number) => Judgement {
-            kind: 1,
-            number: number as u64,
-            place: 0,
-            won: 0,
-        },
-        Judged::RefusedAt(number, place) => Judgement {
-            kind: 2,
-            number: number as u64,
-            place: place as u64,
-            won: 0,
-        },
+impl From<Result<bool, Refusal>> for Judgement {
+    ghost from_gives = { λ answer reply. reply ≡ judgement_of (told_judged answer) };
+
+    fn from(answer: Result<bool, Refusal>) -> Judgement {
+        let a = CallAnswer::from(answer);
+        Judgement {
+            kind: a.kind,
+            number: a.number,
+            place: a.place,
+            won: answer.unwrap_or(false) as u64,
+        }
     }
 }
 
-pub fn marked_shown(m: Marked) -> Marks
-    ensures { result ≡ marks_of (toldMarked m) }
-{
-    match m {
-        Marked::Values(winning, domain) => Marks {
-            kind: 0,
-            number: 0,
-            place: 0,
-            winning: winning as u64,
-            domain: domain as u64,
-        },
-        Marked::Refused(number) => Marks {
-            kind: 1,
-            number: number as u64,
-            place: 0,
+impl From<Result<marking::Marks, Refusal>> for Marks {
+    ghost from_gives = { λ answer reply. reply ≡ marks_of (toldMarked answer) };
+
+    fn from(answer: Result<marking::Marks, Refusal>) -> Marks {
+        let a = CallAnswer::from(answer);
+        let m = answer.unwrap_or(marking::Marks {
             winning: 0,
             domain: 0,
-        },
-        Marked::RefusedAt(number, place) => Marks {
-            kind: 2,
-            number: number as u64,
-            place: place as u64,
-            winning: 0,
-            domain: 0,
-        },
+        });
+        Marks {
+            kind: a.kind,
+            number: a.number,
+            place: a.place,
+            winning: m.winning as u64,
+            domain: m.domain as u64,
+        }
     }
 }
 
-pub fn searched_shown(s: Searched) -> SearchFindings
-    ensures { result ≡ searched_of (found s) }
-{
-    let judged = s.judged;
-    let list = s.list;
-    let leaf = s.leaf;
-    let j = judged_shown(judged);
-    SearchFindings {
-        kind: j.kind,
-        number: j.number,
-        place: j.place,
-        won: j.won,
-        loss: s.loss as u64,
-        conflict: s.conflict as u64,
-        list: list,
-        leaf: leaf,
+impl From<Result<Ran, Refusal>> for SearchFindings {
+    ghost from_gives = { λ answer reply. reply ≡ searched_of (found answer) };
+
+    fn from(answer: Result<Ran, Refusal>) -> SearchFindings {
+        let a = CallAnswer::from(answer);
+        let Ran {
+            loss,
+            list,
+            won,
+            conflict,
+            leaf,
+        } = answer.unwrap_or(Ran {
+            loss: false,
+            list: [0; 32],
+            won: false,
+            conflict: 0,
+            leaf: [0; 32],
+        });
+        SearchFindings {
+            kind: a.kind,
+            number: a.number,
+            place: a.place,
+            won: won as u64,
+            loss: loss as u64,
+            conflict: conflict as u64,
+            list: list,
+            leaf: leaf,
+        }
     }
 }
 
-pub fn replayed_shown(r: Replayed) -> ReplayedCalls
-    ensures { result ≡ replayed_of (marks_of (toldMarked r.marks))
-        (opened_of (told_opened r.opened) r.opened.masks r.opened.counts) }
-{
-    let marks = r.marks;
-    let opened = r.opened;
-    ReplayedCalls {
-        marks: marked_shown(marks),
-        opened: opened_shown(opened),
+impl From<Replayed> for ReplayedCalls {
+    ghost from_gives = { λ replayed reply. reply ≡ replayed_of (marks_of (toldMarked replayed.marks))
+        (opened_of (told_opened replayed.opened) (masks_in replayed.opened) (counts_in replayed.opened)) };
+
+    fn from(replayed: Replayed) -> ReplayedCalls {
+        ReplayedCalls {
+            marks: Marks::from(replayed.marks),
+            opened: OpenMasks::from(replayed.opened),
+        }
     }
 }

@@ -3,7 +3,9 @@ ghost use Rattle.std.specs.Prelude.{◌≡◌};
 ghost use Rattle.rule_entries.specs.Alone.{told_look};
 ghost use Rattle.host_replies.specs.Replies.{looked_of};
 
-use rule_entries::Look;
+use crate::calls::CallAnswer;
+use refusal::Refusal;
+use rule_entries::Ahead;
 
 // Whether rule 3 found a loss, and the value and the variable that it names.
 #[repr(C)]
@@ -17,41 +19,23 @@ pub struct LookedAhead {
     pub variable: u64,
 }
 
-pub fn looked_shown(r: Look) -> LookedAhead
-    ensures { result ≡ looked_of (told_look r) }
-{
-    match r {
-        Look::Stands => LookedAhead {
-            kind: 0,
-            number: 0,
-            place: 0,
-            lost: 0,
+impl From<Result<Option<Ahead>, Refusal>> for LookedAhead {
+    ghost from_gives = { λ answer reply. reply ≡ looked_of (told_look answer) };
+
+    fn from(answer: Result<Option<Ahead>, Refusal>) -> LookedAhead {
+        let a = CallAnswer::from(answer);
+        let named = answer.unwrap_or(None);
+        let h = named.unwrap_or(Ahead {
             value: 0,
             variable: 0,
-        },
-        Look::Lost(value, variable) => LookedAhead {
-            kind: 0,
-            number: 0,
-            place: 0,
-            lost: 1,
-            value: value as u64,
-            variable: variable as u64,
-        },
-        Look::Refused(number) => LookedAhead {
-            kind: 1,
-            number: number as u64,
-            place: 0,
-            lost: 0,
-            value: 0,
-            variable: 0,
-        },
-        Look::RefusedAt(number, place) => LookedAhead {
-            kind: 2,
-            number: number as u64,
-            place: place as u64,
-            lost: 0,
-            value: 0,
-            variable: 0,
-        },
+        });
+        LookedAhead {
+            kind: a.kind,
+            number: a.number,
+            place: a.place,
+            lost: named.is_some() as u64,
+            value: h.value as u64,
+            variable: h.variable as u64,
+        }
     }
 }

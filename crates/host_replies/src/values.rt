@@ -3,7 +3,8 @@ ghost use Rattle.std.specs.Prelude.{◌≡◌};
 ghost use Rattle.rule_entries.specs.Alone.{told_values};
 ghost use Rattle.host_replies.specs.Replies.{values_of};
 
-use rule_entries::Values;
+use crate::calls::CallAnswer;
+use refusal::Refusal;
 
 #[repr(C)]
 #[derive(Clone, Copy)]
@@ -14,27 +15,16 @@ pub struct ValueMask {
     pub values: u64,
 }
 
-pub fn values_shown(v: Values) -> ValueMask
-    ensures { result ≡ values_of (told_values v) }
-{
-    match v {
-        Values::Mask(mask) => ValueMask {
-            kind: 0,
-            number: 0,
-            place: 0,
-            values: mask as u64,
-        },
-        Values::Refused(number) => ValueMask {
-            kind: 1,
-            number: number as u64,
-            place: 0,
-            values: 0,
-        },
-        Values::RefusedAt(number, place) => ValueMask {
-            kind: 2,
-            number: number as u64,
-            place: place as u64,
-            values: 0,
-        },
+impl From<Result<u16, Refusal>> for ValueMask {
+    ghost from_gives = { λ answer reply. reply ≡ values_of (told_values answer) };
+
+    fn from(answer: Result<u16, Refusal>) -> ValueMask {
+        let a = CallAnswer::from(answer);
+        ValueMask {
+            kind: a.kind,
+            number: a.number,
+            place: a.place,
+            values: answer.unwrap_or(0) as u64,
+        }
     }
 }

@@ -3,30 +3,15 @@
 // input have the text of all of it (`report_tail`, reporting/proofs/LongInput.antt).
 #![tactic(auto)]
 
-ghost use Rattle.std.specs.Prelude.{◌≤◌, length};
-
 use reporting::report_file;
 use standard_input::{read_full, zeros};
 use std::io;
 use std::io::{Input, Write};
-
-// Writes the first k bytes.
-fn write_front(rt: &impl Print, text: &[u8], k: usize) -> io::Result<()>
-    requires { k ≤ length text.now }
-{
-    io::writer(rt).write_all(&text[..k])
-}
-
-fn write_text(rt: &impl Print, text: &[u8; 1024], k: usize) -> io::Result<()>
-    requires { k ≤ 1024 }
-{
-    write_front(rt, text, k)
-}
 
 fn main(rt: HostRuntime) -> io::Result<()> {
     let mut input: [u8; 17995] = zeros();
     let n = read_full(&mut rt.reader(), &mut input)?;
     let mut text = [0u8; 1024];
     let k = report_file(&input[..n], &mut text);
-    write_text(&rt, &text, k)
+    io::writer(&rt).write_all(&text[..k])
 }

@@ -1,6 +1,7 @@
 -- What judging tells of a file, a position, a rule set's number and a room, and what the room holds afterwards.
-use Rattle.std.specs.Prelude.{ℕ, cond, List, [], ◌∷◌, length}
-use Rattle.refusal.specs.Told.{Told, replied, refused, refused_at}
+use Rattle.std.specs.Prelude.{ℕ, Bool, cond, List, [], ◌∷◌, length, Result}
+use Rattle.refusal.specs.declared.reason.Refusal.{Refusal}
+use Rattle.refusal.specs.Told.{Told, fault_told, refusal_told, told_by}
 use Rattle.refusal.specs.Replied.{replied_for, list_for}
 use Rattle.game.specs.Problem.{Problem}
 use Rattle.game.specs.Winning.{verdict}
@@ -9,16 +10,11 @@ use Rattle.position.specs.declared.Position.{Position}
 use Rattle.position.specs.Position.{plays_of}
 use Rattle.search_words.specs.TurnRoom.{zeroed}
 use Rattle.search_run.specs.Run.{room_needed}
-use Rattle.judging.specs.declared.Judged.{Judged}
-use Rattle.judging.specs.declared.Judged.TheVariants.{Won, Lost, Refused, RefusedAt}
 use Rattle.judging.specs.Tests.{judge_test}
 
--- Each case of the answer in document 01's numbers: 1 for won, 0 for lost.
-unfoldable pub told : Judged → Told
-told Won = replied (1 ∷ [])
-told Lost = replied (0 ∷ [])
-told (Refused e) = refused e
-told (RefusedAt e p) = refused_at e p
+-- The answer in document 01's numbers: 1 for won, 0 for lost.
+abbrev pub told : Result Bool Refusal → Told
+told = told_by (λ (won : Bool). cond won 1 0 ∷ []) refusal_told
 
 -- Over a problem P: the verdict of the game, under every set. "After a finished call these words are zero and any beyond are unchanged"; "A refused call
 -- leaves position, list, room and buffer with their old contents."
@@ -34,7 +30,7 @@ module _ (P : Problem) (p : Position) (set : ℕ) where
 -- Over a file f.
 module _ (f : List ℕ) (p : Position) (set : ℕ) where
   unfoldable pub judge_told : ℕ → Told
-  judge_told words = read_first f refused_at (λ P. judge_reply P p set words)
+  judge_told words = read_first f fault_told (λ P. judge_reply P p set words)
 
   unfoldable pub judge_left : List ℕ → List ℕ
-  judge_left room = read_first f (λ e q. room) (λ P. judge_room P p set room)
+  judge_left room = read_first f (λ e. room) (λ P. judge_room P p set room)

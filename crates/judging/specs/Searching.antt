@@ -1,20 +1,18 @@
 -- What a search of a file from a position under a rule set finds.
-use Rattle.std.specs.Prelude.{ℕ, Bool, false, cond, List, [], ◌∷◌}
+use Rattle.std.specs.Prelude.{ℕ, Bool, false, cond, List, [], ◌∷◌, Result, Ok, Err}
 use Rattle.game.specs.Lists.{spread}
-use Rattle.refusal.specs.declared.Verdict.{Verdict}
-use Rattle.refusal.specs.declared.Verdict.TheVariants.{Fine}
-use Rattle.refusal.specs.declared.Verdict.TheVariants.{Refused as Not}
-use Rattle.refusal.specs.Told.{Told, replied, refused, refused_at}
+use Rattle.refusal.specs.declared.reason.Refusal.{Refusal}
+use Rattle.refusal.specs.Chain.{Test}
+use Rattle.refusal.specs.Told.{Told, replied, reason_told, fault_told, refusal_told}
 use Rattle.game.specs.Problem.{Problem}
 use Rattle.game.specs.Turn.{first_list, reached}
 use Rattle.game.specs.Search.{is_solved, search_from}
 use Rattle.file_decoder.specs.Read.{read_first}
 use Rattle.position.specs.declared.Position.{Position}
 use Rattle.position.specs.Position.{plays_of}
+use Rattle.search_run.specs.declared.Ran.{Ran}
 use Rattle.search_run.specs.Run.{room_needed, leaf_shown, conflict_shown}
-use Rattle.judging.specs.declared.Searched.{Searched}
 use Rattle.judging.specs.Tests.{judge_test}
-use Rattle.judging.specs.Judging.{told}
 
 -- What is told; whether the rules of the first turn found a loss, and the list that they reached, in 32 places; the conflict set of a lost search; the
 -- leaf of a won one, in 32 places.
@@ -25,16 +23,24 @@ pub record Findings : Type 0 where
   pub conflict : ℕ
   pub leaf : List ℕ
 
-unfoldable pub found : Searched → Findings
-found r = record { told = told r.judged; loss = r.loss; list = r.list; conflict = r.conflict; leaf = r.leaf }
+-- Those of a run; a refused call finds nothing.
+unfoldable pub findings_of : Ran → Findings
+findings_of r = record { told = replied (cond r.won 1 0 ∷ []); loss = r.loss; list = r.list; conflict = r.conflict; leaf = r.leaf }
 
--- A refused call finds nothing.
 unfoldable pub nothing : Told → Findings
 nothing t = record { told = t; loss = false; list = spread []; conflict = 0; leaf = spread [] }
 
-unfoldable pub found_for : Verdict → Findings → Findings
-found_for Fine o = o
-found_for (Not e p) o = nothing (refused e)
+-- What an answer finds, where `told` is what its refusals tell.
+abbrev pub found_by : {E : Type 0} → (E → Told) → Result Ran E → Findings
+found_by told (Ok r) = findings_of r
+found_by told (Err e) = nothing (told e)
+
+abbrev pub found : Result Ran Refusal → Findings
+found = found_by refusal_told
+
+unfoldable pub found_for : Test → Findings → Findings
+found_for (Ok u) o = o
+found_for (Err e) o = nothing (reason_told e)
 
 -- Over a problem P, under the rule set `set`: what the first turn reaches, and what the search hands up.
 module _ (P : Problem) (p : Position) (set : ℕ) where
@@ -51,4 +57,4 @@ module _ (P : Problem) (p : Position) (set : ℕ) where
 
 -- Over a file f.
 unfoldable pub search_found : List ℕ → Position → ℕ → ℕ → Findings
-search_found f p set words = read_first f (λ e q. nothing (refused_at e q)) (λ P. search_reply P p set words)
+search_found f p set words = read_first f (λ e. nothing (fault_told e)) (λ P. search_reply P p set words)

@@ -3,20 +3,25 @@ ghost use Rattle.std.specs.Prelude.{◌≡◌};
 ghost use Rattle.judging.specs.Tests.{room_test, place_test};
 
 use position::{Position, fits};
-use refusal::{Verdict, first, needed};
+use refusal::{Reason, needed};
 
 // 12.
-pub fn room_test(room: usize, words: usize) -> Verdict
+pub fn room_test(room: usize, words: usize) -> Result<(), Reason>
     ensures { result ≡ room_test room words }
 {
-    needed(room <= words, 12, 0)
+    needed(room <= words, Reason::Room)
 }
 
 // 23 and 12, in this order.
-pub fn place_test(n: usize, domains: &[u16; 32], p: Position, room: usize, words: usize) -> Verdict
+pub fn place_test(
+    n: usize,
+    domains: &[u16; 32],
+    p: Position,
+    room: usize,
+    words: usize,
+) -> Result<(), Reason>
     ensures { result ≡ place_test n domains.now p room words }
 {
-    let s = needed(fits(p, n, domains), 23, 0);
-    let t = room_test(room, words);
-    first(s, t)
+    needed(fits(p, n, domains), Reason::Misfit)?;
+    room_test(room, words)
 }

@@ -8,13 +8,13 @@ use lib.Dec.{T, ltb}
 use lib.ListN.{get_or, length, take}
 use borrow.Author.Tests.{ltb-true}
 use Rattle.mask.proofs.Logic.{true_holds}
-use Rattle.refusal.specs.declared.Verdict.{Verdict}
-use Rattle.refusal.specs.declared.Verdict.TheVariants.{Fine}
-use Rattle.refusal.specs.declared.Verdict.TheVariants.{Refused as Not}
-use Rattle.refusal.specs.Told.{replied, refused}
+use Rattle.std.specs.Prelude.{Result, Ok, Err}
+use Rattle.refusal.specs.declared.reason.Reason.{Reason}
+use Rattle.refusal.specs.declared.reason.Reason.TheVariants.{Rules, Done}
+use Rattle.refusal.specs.Told.{replied, reason_told, told_by}
 use Rattle.refusal.specs.Replied.{replied_for, list_for}
-use Rattle.refusal.proofs.RepliedLaws.{reply_refused, reply_told, list-refused, list_left}
-use Rattle.refusal.specs.Chain.{◌then◌, need}
+use Rattle.refusal.proofs.RepliedLaws.{reply_refused, reply_told, list_refused, list_left}
+use Rattle.refusal.specs.Chain.{Test, Fine, ◌then◌, need}
 use Rattle.refusal.proofs.Chain.{then_fine, need_fine}
 use Rattle.rule_set.specs.declared.RuleSet.{RuleSet}
 use Rattle.rule_set.specs.RuleSet.{is_rule_set}
@@ -22,7 +22,7 @@ use Rattle.game.specs.Problem.{Problem}
 use Rattle.game.specs.Search.{marked_values}
 use Rattle.game.specs.Winning.{winning_values}
 use Rattle.theory.proofs.Theorems.{marks_are}
-use Rattle.solver_arrays.specs.declared.Variables.{Variables}
+use Rattle.solver_arrays.specs.declared.arrays.Arrays.{Arrays}
 use Rattle.file_decoder.specs.FileProblem.{problem_of, ordinary_of}
 use Rattle.file_decoder.specs.Decoded.{FileGiven}
 use Rattle.file_decoder.proofs.FileLaws.{problem_size}
@@ -35,24 +35,23 @@ use Rattle.search_run.specs.Run.{room_words, room_needed}
 use Rattle.judging.specs.Tests.{position_test, room_test}
 use Rattle.judging.proofs.TestLaws.{room_fine, position_same}
 use Rattle.judging.proofs.JudgeLaws.{own-domain}
-use Rattle.marking.specs.declared.Marked.{Marked}
-use Rattle.marking.specs.declared.Marked.TheVariants.{Values, Refused}
+use Rattle.marking.specs.declared.Marks.{Marks}
 use Rattle.marking.specs.Marks.{Wins}
-use Rattle.marking.specs.Marking.{told, mark_test, mark_place_test, mark_reply, mark_room, mark_told, mark_left, MarksBy, MarksWith, MarksIn}
+use Rattle.marking.specs.Marking.{mark_values, mark_test, mark_place_test, mark_reply, mark_room, mark_told, mark_left, MarksBy, MarksWith, MarksIn}
 
 -- The room needed by its number.
-pub place_with : (n : ℕ) (masks : List ℕ) (p : Position) (words : ℕ) (v : Verdict) (needed k : ℕ) → v ≡ mark_place_test n masks p needed words → needed ≡ k
+pub place_with : (n : ℕ) (masks : List ℕ) (p : Position) (words : ℕ) (v : Test) (needed k : ℕ) → v ≡ mark_place_test n masks p needed words → needed ≡ k
     → v ≡ mark_place_test n masks p k words
 place_with n masks p words v needed k t e = t ∙ ap (λ (k : ℕ). mark_place_test n masks p k words) e
 
 -- What fine tests say.
-pub place_fine : (n : ℕ) (masks : List ℕ) (p : Position) (needed words : ℕ) (v : Verdict) → v ≡ mark_place_test n masks p needed words → v ≡ Fine
+pub place_fine : (n : ℕ) (masks : List ℕ) (p : Position) (needed words : ℕ) (v : Test) → v ≡ mark_place_test n masks p needed words → v ≡ Fine
     → T (fits_in p n masks) × (p.plays < n) × (needed ≤ words)
 unfolding mark_place_test
 place_fine n masks p needed words v t z =
     let a = then_fine _ _ (sym t ∙ z) in
     let c = then_fine _ _ a.1 in
-    (true_holds (need_fine _ _ _ a.0), ltb-true p.plays n (need_fine _ _ _ c.0), room_fine needed words c.1)
+    (true_holds (need_fine _ _ a.0), ltb-true p.plays n (need_fine _ _ c.0), room_fine needed words c.1)
 
 module _ (n : ℕ) (masks : List ℕ) (p : Position) (set needed words : ℕ) where
   -- Behind a rule set come the other tests; a number that is none is 8.
@@ -60,7 +59,7 @@ module _ (n : ℕ) (masks : List ℕ) (p : Position) (set needed words : ℕ) wh
   unfolding mark_test mark_place_test position_test need ◌then◌
   mark_goes e = rw e
 
-  mark_stops : is_rule_set set ≡ false → mark_test n masks p set needed words ≡ Not 8 0
+  mark_stops : is_rule_set set ≡ false → mark_test n masks p set needed words ≡ Err Rules
   unfolding mark_test position_test need ◌then◌
   mark_stops e = rw e
 
@@ -68,39 +67,36 @@ module _ (n : ℕ) (masks : List ℕ) (p : Position) (set needed words : ℕ) wh
   unfolding mark_test position_test
   mark_fits e =
       let a = then_fine _ _ e in
-      (true_holds (need_fine _ _ _ (then_fine _ _ a.0).1), ltb-true p.plays n (need_fine _ _ _ (then_fine _ _ a.1).0))
+      (true_holds (need_fine _ _ (then_fine _ _ a.0).1), ltb-true p.plays n (need_fine _ _ (then_fine _ _ a.1).0))
 
 -- The tests are those of the problem.
 mark_same : (P : Problem) (n : ℕ) (masks : List ℕ) → P.n ≡ n → P.domain ≡ take n masks → (p : Position) (set needed words : ℕ)
     → mark_test n masks p set needed words ≡ mark_test P.n P.domain p set needed words
 unfolding mark_test
 mark_same P n masks e f p set needed words =
-    ap₂ (λ (v : Verdict) (k : ℕ). v then (need (ltb p.plays k) 22 0 then room_test needed words)) (position_same P n masks e f p set) (sym e)
+    ap₂ (λ (v : Test) (k : ℕ). v then (need (ltb p.plays k) Done then room_test needed words)) (position_same P n masks e f p set) (sym e)
 
 -- Over the arrays, behind the rule set, the test being t.
-module _ (v : Variables) (near index rows : List ℕ) (n : ℕ) (p : Position) (set : ℕ) (w : List ℕ) (t : Verdict)
-    (tested : t ≡ mark_place_test n v.domains p (room_words v.n) (length w)) where
-  pub marks_refused : (e q : ℕ) → t ≡ Not e q → MarksWith v near index rows n p set w w (Refused e)
-  unfolding told
-  marks_refused e q z = λ P o. (reply_refused t _ e q _ z tested, list-refused t _ e q _ w z tested)
+module _ (A : Arrays) (p : Position) (set : ℕ) (w : List ℕ) (t : Test)
+    (tested : t ≡ mark_place_test A.own A.domains p (room_words A.n) (length w)) where
+  pub marks_refused : {e : Reason} (r : Result Marks Reason) → t ≡ Err e → r ≡ Err e → MarksWith A p set w w r
+  marks_refused r z q = λ P o. (ap (told_by mark_values reason_told) q ∙ reply_refused _ _ tested z, list_refused _ _ _ tested z)
 
-  pub marks_told : (winning domain : ℕ) (w' : List ℕ) → t ≡ Fine → Wins v near index rows set p winning domain → w' ≡ zeroed 0 (room_words v.n) w
-      → MarksWith v near index rows n p set w w' (Values winning domain)
-  unfolding told
-  marks_told winning domain w' z f e = λ P o. (reply_told t _ _ _ z tested (ap₂ (λ a b. a ∷ b ∷ []) (f P o).0 (f P o).1), list_left t _ w' _ w z tested e)
+  pub marks_told : {u : Unit {0}} (m : Marks) (w' : List ℕ) → t ≡ Ok u → Wins A set p m.winning m.domain → w' ≡ zeroed 0 (room_words A.n) w
+      → MarksWith A p set w w' (Ok m)
+  marks_told m w' z f e = λ P o. (reply_told _ _ tested z (ap₂ (λ a b. a ∷ b ∷ []) (f P o).0 (f P o).1), list_left _ _ _ tested z e)
 
 -- With the rule set's number.
-module _ (v : Variables) (near index rows : List ℕ) (n : ℕ) (p : Position) (set : ℕ) (w w' : List ℕ) where
-  pub marks_none : is_rule_set set ≡ false → (e : ℕ) → e ≡ 8 → w' ≡ w → MarksIn v near index rows n p set w w' (Refused e)
-  unfolding told
-  marks_none z e k g = λ P o.
-      let s = mark_stops n v.domains p set (room_words v.n) (length w) z in
-      (ap refused k ∙ reply_refused (Not 8 0) _ 8 0 _ refl (sym s), g ∙ list-refused (Not 8 0) _ 8 0 _ w refl (sym s))
+module _ (A : Arrays) (p : Position) (set : ℕ) (w w' : List ℕ) (r : Result Marks Reason) where
+  pub marks_none : {e : Reason} → is_rule_set set ≡ false → e ≡ Rules → w' ≡ w → r ≡ Err e → MarksIn A p set w w' r
+  marks_none z k g q = λ P o.
+      let s = mark_stops A.own A.domains p set (room_words A.n) (length w) z in
+      (ap (told_by mark_values reason_told) q ∙ ap reason_told k ∙ reply_refused _ _ refl s, g ∙ list_refused _ _ _ refl s)
 
-  pub marks_with : (r : Marked) (c : RuleSet) → is_rule_set set ≡ true → c.bits ≡ set → MarksWith v near index rows n p c.bits w w' r → MarksIn v near index rows n p set w w' r
-  marks_with r c z e f = λ P o.
-      subst (λ (k : ℕ). MarksBy v near index rows (mark_test n v.domains p set (room_words v.n) (length w)) p k w w' r) e
-      (subst (λ (t : Verdict). MarksBy v near index rows t p c.bits w w' r) (sym (mark_goes n v.domains p set (room_words v.n) (length w) z)) f) P o
+  pub marks_with : (c : RuleSet) → is_rule_set set ≡ true → c.bits ≡ set → MarksWith A p c.bits w w' r → MarksIn A p set w w' r
+  marks_with c z e f = λ P o.
+      subst (λ (k : ℕ). MarksBy A (mark_test A.own A.domains p set (room_words A.n) (length w)) p k w w' r) e
+      (subst (λ (t : Test). MarksBy A t p c.bits w w' r) (sym (mark_goes A.own A.domains p set (room_words A.n) (length w) z)) f) P o
 
 -- The marks found are the game's, under every rule set.
 marked_values_lem : (P : Problem) (p : Position) (set words : ℕ) → P.n ≤ 32 → length p.values ≡ 32
@@ -108,29 +104,29 @@ marked_values_lem : (P : Problem) (p : Position) (set words : ℕ) → P.n ≤ 3
 unfolding mark_reply replied_for
 marked_values_lem P p set words m long = go (mark_test P.n P.domain p set (room_needed P) words) refl
   where
-    go : (v : Verdict) → mark_test P.n P.domain p set (room_needed P) words ≡ v
+    go : (v : Test) → mark_test P.n P.domain p set (room_needed P) words ≡ v
         → replied_for v (marked_values P set (plays_of p) ∷ get_or P.domain p.plays 0 ∷ []) ≡ replied_for v (winning_values P (plays_of p) ∷ get_or P.domain p.plays 0 ∷ [])
-    go Fine z =
+    go (Ok u) z =
         let t = mark_fits P.n P.domain p set (room_needed P) words z in
         let k = length_plays p P.n P.domain t.0 m long in
         let h = t.1 in
         ap (λ a. replied (a ∷ get_or P.domain p.plays 0 ∷ [])) (marks_are P set (plays_of p) (fits-legal p P.n P.domain t.0 m long P refl (own-domain P)) (omega arith))
-    go (Not e q) z = refl
+    go (Err e) z = refl
 
 -- So the arrays' reply is the file's.
-pub marked-file : (f : List ℕ) (n : ℕ) (v : Variables) (near index rows : List ℕ) → FileGiven f n v near index rows
-    → (p : Position) → length p.values ≡ 32 → (set : ℕ) (w w' : List ℕ) (r : Marked) → MarksIn v near index rows n p set w w' r
-    → (told r ≡ mark_told f p set (length w)) × (w' ≡ mark_left f p set w)
+pub marked-file : (f : List ℕ) (A : Arrays) → FileGiven f A
+    → (p : Position) → length p.values ≡ 32 → (set : ℕ) (w w' : List ℕ) (r : Result Marks Reason) → MarksIn A p set w w' r
+    → (told_by mark_values reason_told r ≡ mark_told f p set (length w)) × (w' ≡ mark_left f p set w)
 unfolding mark_told mark_left mark_room ordinary_of
-marked-file f n v near index rows g p long set w w' r j =
+marked-file f A g p long set w w' r j =
     let P = problem_of f g.fine in
     let q = j P g.poses in
     let z = g.poses.states.size in
-    let t : mark_test n v.domains p set (room_words v.n) (length w) ≡ mark_test P.n P.domain p set (room_needed P) (length w)
-    = mark_same P n v.domains (problem_size f g.fine ∙ sym g.size) g.domain p set (room_words v.n) (length w)
+    let t : mark_test A.own A.domains p set (room_words A.n) (length w) ≡ mark_test P.n P.domain p set (room_needed P) (length w)
+    = mark_same P A.own A.domains (problem_size f g.fine ∙ sym g.size) g.domain p set (room_words A.n) (length w)
     ∙ ap (λ (k : ℕ). mark_test P.n P.domain p set (room_words k) (length w)) (sym z)
     in (
-      q.0 ∙ ap (λ (t : Verdict). replied_for t (marked_values P set (plays_of p) ∷ get_or P.domain p.plays 0 ∷ [])) t
-          ∙ marked_values_lem P p set (length w) (omega (arith, z, g.most)) long ∙ sym (read_fine f _ _ g.fine),
-      q.1 ∙ ap₂ (λ (t : Verdict) (k : ℕ). list_for t (zeroed 0 (room_words k) w) w) t (sym z) ∙ sym (read_fine f _ _ g.fine),
+      q.0 ∙ ap (λ (t : Test). replied_for t (marked_values P set (plays_of p) ∷ get_or P.domain p.plays 0 ∷ [])) t
+          ∙ marked_values_lem P p set (length w) (omega (arith, z, A.most)) long ∙ sym (read_fine f _ _ g.fine),
+      q.1 ∙ ap₂ (λ (t : Test) (k : ℕ). list_for t (zeroed 0 (room_words k) w) w) t (sym z) ∙ sym (read_fine f _ _ g.fine),
     )

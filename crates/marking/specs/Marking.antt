@@ -1,13 +1,15 @@
 -- What marking tells of a file, a position, a rule set's number and a room, and what the room holds afterwards.
-use Rattle.std.specs.Prelude.{ℕ, ◌≡◌, List, [], ◌∷◌, ltb, get_or, length}
-use Rattle.refusal.specs.declared.Verdict.{Verdict}
-use Rattle.refusal.specs.Told.{Told, replied, refused, refused_at}
+use Rattle.std.specs.Prelude.{ℕ, ◌≡◌, List, [], ◌∷◌, ltb, get_or, length, Result}
+use Rattle.refusal.specs.declared.reason.Reason.{Reason}
+use Rattle.refusal.specs.declared.reason.Reason.TheVariants.{Done, Misfit}
+use Rattle.refusal.specs.declared.reason.Refusal.{Refusal}
+use Rattle.refusal.specs.Told.{Told, reason_told, fault_told, refusal_told, told_by}
 use Rattle.refusal.specs.Replied.{replied_for, list_for}
-use Rattle.refusal.specs.Chain.{◌then◌, need}
+use Rattle.refusal.specs.Chain.{Test, ◌then◌, need}
 use Rattle.game.specs.Problem.{Problem}
 use Rattle.game.specs.Search.{marked_values}
 use Rattle.game.specs.Winning.{winning_values}
-use Rattle.solver_arrays.specs.declared.Variables.{Variables}
+use Rattle.solver_arrays.specs.declared.arrays.Arrays.{Arrays}
 use Rattle.solver_arrays.specs.Arrays.{Poses}
 use Rattle.file_decoder.specs.Read.{read_first}
 use Rattle.position.specs.declared.Position.{Position}
@@ -15,22 +17,23 @@ use Rattle.position.specs.Position.{plays_of, fits_in}
 use Rattle.search_words.specs.TurnRoom.{zeroed}
 use Rattle.search_run.specs.Run.{room_words, room_needed}
 use Rattle.judging.specs.Tests.{position_test, room_test}
-use Rattle.marking.specs.declared.Marked.{Marked}
-use Rattle.marking.specs.declared.Marked.TheVariants.{Values, Refused, RefusedAt}
+use Rattle.marking.specs.declared.Marks.{Marks}
 
--- Each case of the answer in document 01's numbers: the mask of the good options, and the next choice's mask, in which all others are bad.
-unfoldable pub told : Marked → Told
-told (Values winning domain) = replied (winning ∷ domain ∷ [])
-told (Refused e) = refused e
-told (RefusedAt e p) = refused_at e p
+-- The values of a finished answer: the mask of the good options, and the next choice's mask, in which all others are bad.
+abbrev pub mark_values : Marks → List ℕ
+mark_values m = m.winning ∷ m.domain ∷ []
+
+-- The answer in document 01's numbers.
+abbrev pub told : Result Marks Refusal → Told
+told = told_by mark_values refusal_told
 
 -- The tests of marking: 8, 23, "22 Done: marks asked when all are played", 12.
-unfoldable pub mark_test : ℕ → List ℕ → Position → ℕ → ℕ → ℕ → Verdict
-mark_test n masks p set needed words = position_test n masks p set then (need (ltb p.plays n) 22 0 then room_test needed words)
+unfoldable pub mark_test : ℕ → List ℕ → Position → ℕ → ℕ → ℕ → Test
+mark_test n masks p set needed words = position_test n masks p set then (need (ltb p.plays n) Done then room_test needed words)
 
 -- Those behind the rule set's.
-unfoldable pub mark_place_test : ℕ → List ℕ → Position → ℕ → ℕ → Verdict
-mark_place_test n masks p needed words = need (fits_in p n masks) 23 0 then (need (ltb p.plays n) 22 0 then room_test needed words)
+unfoldable pub mark_place_test : ℕ → List ℕ → Position → ℕ → ℕ → Test
+mark_place_test n masks p needed words = need (fits_in p n masks) Misfit then (need (ltb p.plays n) Done then room_test needed words)
 
 -- Over a problem P: the winning values of the next variable, under every set, and its domain; the room as judging leaves it.
 module _ (P : Problem) (p : Position) (set : ℕ) where
@@ -45,23 +48,23 @@ module _ (P : Problem) (p : Position) (set : ℕ) where
 -- Over a file f.
 module _ (f : List ℕ) (p : Position) (set : ℕ) where
   unfoldable pub mark_told : ℕ → Told
-  mark_told words = read_first f refused_at (λ P. mark_reply P p set words)
+  mark_told words = read_first f fault_told (λ P. mark_reply P p set words)
 
   unfoldable pub mark_left : List ℕ → List ℕ
-  mark_left room = read_first f (λ e q. room) (λ P. mark_room P p set room)
+  mark_left room = read_first f (λ e. room) (λ P. mark_room P p set room)
 
--- Over the arrays near, index and rows, in every problem that they state over the variables v; the first n are to play.
-module _ (v : Variables) (near index rows : List ℕ) where
+-- Over the arrays A, in every problem that they state; the first A.own variables are to play.
+module _ (A : Arrays) where
   -- Where the tests give t: the reply r, and the room from w to w', by searches under this very set.
-  abbrev pub MarksBy : Verdict → (p : Position) (set : ℕ) (w w' : List ℕ) (r : Marked) → Type 0
+  abbrev pub MarksBy : Test → (p : Position) (set : ℕ) (w w' : List ℕ) (r : Result Marks Reason) → Type 0
   MarksBy t p set w w' r =
-      (P : Problem) → Poses P v near index rows
-      → (told r ≡ replied_for t (marked_values P set (plays_of p) ∷ get_or P.domain p.plays 0 ∷ []))
-      × (w' ≡ list_for t (zeroed 0 (room_words v.n) w) w)
+      (P : Problem) → Poses P A
+      → (told_by mark_values reason_told r ≡ replied_for t (marked_values P set (plays_of p) ∷ get_or P.domain p.plays 0 ∷ []))
+      × (w' ≡ list_for t (zeroed 0 (room_words A.n) w) w)
 
   -- By the tests behind the rule set's, and by all.
-  abbrev pub MarksWith : (n : ℕ) (p : Position) (set : ℕ) (w w' : List ℕ) (r : Marked) → Type 0
-  MarksWith n p set w w' r = MarksBy (mark_place_test n v.domains p (room_words v.n) (length w)) p set w w' r
+  abbrev pub MarksWith : (p : Position) (set : ℕ) (w w' : List ℕ) (r : Result Marks Reason) → Type 0
+  MarksWith p set w w' r = MarksBy (mark_place_test A.own A.domains p (room_words A.n) (length w)) p set w w' r
 
-  abbrev pub MarksIn : (n : ℕ) (p : Position) (set : ℕ) (w w' : List ℕ) (r : Marked) → Type 0
-  MarksIn n p set w w' r = MarksBy (mark_test n v.domains p set (room_words v.n) (length w)) p set w w' r
+  abbrev pub MarksIn : (p : Position) (set : ℕ) (w w' : List ℕ) (r : Result Marks Reason) → Type 0
+  MarksIn p set w w' r = MarksBy (mark_test A.own A.domains p set (room_words A.n) (length w)) p set w w' r

@@ -3,7 +3,7 @@
 #![tactic(auto)]
 
 ghost use Rattle.std.specs.Prelude.{◌≡◌, length};
-ghost use Rattle.search_run.specs.Run.{Searchable};
+ghost use Rattle.solver_arrays.specs.Arrays.{Posed};
 ghost use Rattle.marking.specs.Marking.{told, mark_place_test, mark_told, mark_left, MarksWith, MarksIn};
 
 mod values;
@@ -11,96 +11,65 @@ mod values;
 use file_decoder::decode;
 use judging::room_test;
 use position::{Position, fits};
-use refusal::{Verdict, first, needed};
-use rule_set::{Chosen, RuleSet};
+use refusal::{Reason, Refusal, needed};
+use rule_set::RuleSet;
 use search_run::{Start, room_needed};
-use solver_arrays::{Index, Near, ROWS, Rows, Variables};
+use solver_arrays::Arrays;
 use values::winning_values;
 
-// What marking replies: the winning values and the domain of the next variable; refused by number; the file's refusal with
-// its place.
+// The winning values of a position's next variable, and its domain.
 #[derive(Clone, Copy)]
-pub enum Marked {
-    Values(u16, u16),
-    Refused(u8),
-    RefusedAt(u8, usize),
+pub struct Marks {
+    pub winning: u16,
+    pub domain: u16,
 }
 
 // The tests of marking behind the rule set: 23, 22, 12.
-fn mark_test(n: usize, domains: &[u16; 32], p: Position, room: usize, words: usize) -> Verdict
+fn mark_test(
+    n: usize,
+    domains: &[u16; 32],
+    p: Position,
+    room: usize,
+    words: usize,
+) -> Result<(), Reason>
     ensures { result ≡ mark_place_test n domains.now p room words }
 {
-    let s = needed(fits(p, n, domains), 23, 0);
-    let t = needed(p.plays < n, 22, 0);
-    let u = room_test(room, words);
-    first(s, first(t, u))
+    needed(fits(p, n, domains), Reason::Misfit)?;
+    needed(p.plays < n, Reason::Done)?;
+    room_test(room, words)
 }
 
-// Marks under a rule set over the arrays of a problem, of which the first n variables are to play.
-fn mark_with(
-    near: &Near,
-    index: &Index,
-    rows: &Rows,
-    v: Variables,
-    n: usize,
-    p: Position,
-    set: RuleSet,
-    room: &mut [u16],
-) -> Marked
-    requires { Searchable n v near.now index.now rows.now }
-    ensures { MarksWith v near.now index.now rows.now n p set.bits
+// Marks under a rule set over the arrays of a problem.
+fn mark_with(arrays: &Arrays, p: Position, set: RuleSet, room: &mut [u16]) -> Result<Marks, Reason>
+    requires { Posed arrays.now }
+    ensures { MarksWith arrays.now p set.bits
         room.old room.new result }
 {
-    let d = v.domains;
-    let t = mark_test(n, &d, p, room_needed(v.n), room.len());
-    match t {
-        Verdict::Refused(number, _) => Marked::Refused(number),
-        Verdict::Fine => {
-            let s = Start {
-                variables: v,
-                set: set,
-                position: p,
-            };
-            let m = winning_values(near, index, rows, s, room);
-            Marked::Values(m.winning, m.domain)
-        }
-    }
+    mark_test(
+        arrays.own,
+        &arrays.domains,
+        p,
+        room_needed(arrays.n),
+        room.len(),
+    )?;
+    Ok(winning_values(arrays, Start { set, position: p }, room))
 }
 
 // Marks under the rule set of this number.
-fn mark_in(
-    near: &Near,
-    index: &Index,
-    rows: &Rows,
-    v: Variables,
-    n: usize,
-    p: Position,
-    set: usize,
-    room: &mut [u16],
-) -> Marked
-    requires { Searchable n v near.now index.now rows.now }
-    ensures { MarksIn v near.now index.now rows.now n p set
+fn mark_in(arrays: &Arrays, p: Position, set: usize, room: &mut [u16]) -> Result<Marks, Reason>
+    requires { Posed arrays.now }
+    ensures { MarksIn arrays.now p set
         room.old room.new result }
 {
-    let c = RuleSet::new(set);
-    match c {
-        Chosen::Refused(number) => Marked::Refused(number),
-        Chosen::Set(s) => mark_with(near, index, rows, v, n, p, s, room),
-    }
+    let s = RuleSet::new(set)?;
+    mark_with(arrays, p, s, room)
 }
 
 // The marks of the position's next variable, by searches under the rule set of this number. The room is left as by judging.
-pub fn mark(f: &[u8], p: Position, set: usize, room: &mut [u16]) -> Marked
+pub fn mark(f: &[u8], p: Position, set: usize, room: &mut [u16]) -> Result<Marks, Refusal>
     ensures result_value { told result ≡ mark_told f.now p set (length room.old) }
     ensures room_after { room.new ≡ mark_left f.now p set room.old }
 {
-    let mut near = [0u32; 32];
-    let mut index = [0u16; 1024];
-    let mut rows = [0u16; ROWS];
-    let d = decode(f, &mut near, &mut index, &mut rows);
-    if d.refused {
-        return Marked::RefusedAt(d.number, d.place);
-    }
-    let v = d.variables;
-    mark_in(&near, &index, &rows, v, d.n, p, set, room)
+    let arrays = decode(f)?;
+    Ok(mark_in(&arrays, p, set, room)?)
 }

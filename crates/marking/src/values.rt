@@ -3,70 +3,41 @@ ghost use Rattle.std.specs.Prelude.{◌≡◌, ◌<◌, T, get_or};
 ghost use Rattle.mask.specs.Mask.{bit};
 ghost use Rattle.search_words.specs.TurnRoom.{zeroed};
 ghost use Rattle.search_run.specs.Run.{room_words};
-ghost use Rattle.marking.specs.Marks.{Asked, WinsWith, Wins, with_value};
+ghost use Rattle.marking.specs.Marks.{Asked, WinsWith, Wins};
 
-use mask::{lowest, rest_of, single};
+use crate::Marks;
+use mask::{members_of, single};
 use position::pushed;
 use search_run::{Start, run};
-use solver_arrays::{Index, Near, Rows};
-
-// The winning values of a position's next variable, and its domain.
-#[derive(Clone, Copy)]
-pub struct Marks {
-    pub winning: u16,
-    pub domain: u16,
-}
+use solver_arrays::Arrays;
 
 // Whether value a of the next variable wins when played.
-fn wins_with(near: &Near, index: &Index, rows: &Rows, s: Start, a: usize, room: &mut [u16]) -> bool
-    requires { Asked s near.now index.now rows.now room.old × (a < 16)
-        × T (bit (get_or s.variables.domains s.position.plays 0) a) }
-    ensures { WinsWith s.variables near.now index.now rows.now s.set.bits s.position a result
-        × (room.new ≡ zeroed 0 (room_words s.variables.n) room.old) }
+fn wins_with(arrays: &Arrays, s: Start, a: usize, room: &mut [u16]) -> bool
+    requires { Asked s arrays.now room.old × (a < 16)
+        × T (bit (get_or arrays.now.domains s.position.plays 0) a) }
+    ensures { WinsWith arrays.now s.set.bits s.position a result
+        × (room.new ≡ zeroed 0 (room_words arrays.now.n) room.old) }
 {
-    let v = s.variables;
-    let set = s.set;
-    let p = s.position;
     let then = Start {
-        variables: v,
-        set: set,
-        position: pushed(p, a as u8),
+        position: pushed(s.position, a as u8),
+        ..s
     };
-    run(near, index, rows, then, room).won
-}
-
-// The mask m with value a in it where it wins.
-fn with_value(m: u16, a: usize, wins: bool) -> u16
-    requires { a < 16 }
-    ensures { result ≡ with_value m a wins }
-{
-    if wins { m | single(a) } else { m }
-}
-
-// The domain of the variable after d plays.
-fn next_domain(domains: &[u16; 32], d: usize) -> u16
-    requires { d < 32 }
-    ensures { result ≡ get_or domains.now d 0 }
-{
-    domains[d]
+    run(arrays, then, room).won
 }
 
 // The values of the next variable that win, and its domain.
-pub fn winning_values(near: &Near, index: &Index, rows: &Rows, s: Start, room: &mut [u16]) -> Marks
-    requires { Asked s near.now index.now rows.now room.old }
-    ensures { Wins s.variables near.now index.now rows.now s.set.bits s.position
+pub fn winning_values(arrays: &Arrays, s: Start, room: &mut [u16]) -> Marks
+    requires { Asked s arrays.now room.old }
+    ensures { Wins arrays.now s.set.bits s.position
         result.winning result.domain
-        × (room.new ≡ zeroed 0 (room_words s.variables.n) room.old) }
+        × (room.new ≡ zeroed 0 (room_words arrays.now.n) room.old) }
 {
-    let domains = s.variables.domains;
-    let m = next_domain(&domains, s.position.plays);
+    let m = arrays.domains[s.position.plays];
     let mut won: u16 = 0;
-    let mut left = m;
-    while left != 0 {
-        let a = lowest(left) as usize;
-        let w = wins_with(near, index, rows, s, a, room);
-        won = with_value(won, a, w);
-        left = rest_of(left);
+    for a in members_of(m) {
+        if wins_with(arrays, s, a, room) {
+            won |= single::<u16>(a);
+        }
     }
     Marks {
         winning: won,

@@ -10,3 +10,9 @@ pub mod Bits
 pub mod Masks
 -- Laws of the lowest member and the rest, for loops over the members of a mask.
 pub mod Members
+-- Laws of chains over the members of a mask.
+pub mod Chains
+-- Laws of chains over a range.
+pub mod Below
+-- Laws of searches for the first that passes.
+pub mod Found

@@ -12,7 +12,7 @@ use borrow.Author.Tests.{ne_eqb, lt-ltb, le-ltb, eq-eqb}
 use Rattle.mask.specs.Range.{some, each, count, first}
 use Rattle.mask.specs.Mask.{bit, rest, above, mask_of}
 use Rattle.mask.proofs.Logic.{same, fails, clash, true_holds, test, by_eq, by_lt, and_in, and_out, or_left, or_right, or_out, holds}
-use Rattle.mask.proofs.Range.{some_out, some_in, each_out, each_in, count_cut, first_of, first_below, first_is, first_least, first_none, first-agree}
+use Rattle.mask.proofs.Range.{some_out, some_in, each_out, each_in, count_cut, count_without, first_of, first_below, first_is, first_least, first_none, first-agree}
 use Rattle.mask.proofs.Bits.{bit-bit_and, bit-diff, bit_zero, bit_suc, bit_none, bit_high, bit_of_zero, bit_single, bit_ext, bit-bit_or}
 use Rattle.mask.proofs.Masks.{bit_not, diff_lt, mask_of_lt, bit-mask_of}
 
@@ -73,6 +73,11 @@ low_lt w m h z =
 
 pub low_in : (w m : ℕ) → m < 2 ^ w → ¬ (m ≡ 0) → T (bit m (first w (bit m)))
 low_in w m h z = first_of w (bit m) (low_lt w m h z)
+
+-- The rest has one member fewer.
+pub count-rest : (w m : ℕ) → m < 2 ^ w → ¬ (m ≡ 0) → count w (bit m) ≡ suc (count w (bit (rest m)))
+count-rest w m h z =
+    count_without w (first w (bit m)) (bit m) (bit (rest m)) (low_lt w m h z) (holds (low_in w m h z)) (λ k l. bit-rest w m h z k)
 
 -- A test of some, and of each, member: the lowest, and the rest.
 module _ (w m : ℕ) (h : m < 2 ^ w) (z : ¬ (m ≡ 0)) (f : ℕ → Bool) where

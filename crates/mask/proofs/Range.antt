@@ -1,6 +1,6 @@
 -- Laws of tests over a range: `each` against a function, `some` against a witness; bounds of `count` and `first`.
 use mathlib.Core.Path.{◌≡◌, refl, sym, ap, ap₂, ◌∙◌}
-use mathlib.Core.Bool.{Bool, true, false, cond, not, ◌&&◌, ◌||◌, and-false, or-false}
+use mathlib.Core.Bool.{Bool, true, false, cond, not, ◌&&◌, ◌||◌, and-false, and-true, or-false}
 use Prim.Native.Nat.{ℕ, zero, suc, ◌≤◌, ◌<◌}
 use native.Mathlib.Nat.{le_refl}
 use native.Mathlib.Omega.{arith}
@@ -120,6 +120,27 @@ count_cut zero a f g h e z = let x : a ≡ 0 = omega arith in rw x
 count_cut (suc v) a f g h e z =
     by_eq a (suc v) (λ x. rw x (count_same (suc v) f g (λ k l. e k (omega arith))))
     (λ x. rw (z v (omega arith)) (let r = count_cut v a f g (omega arith) e z in omega arith))
+
+-- None passes.
+pub count_none : (v : ℕ) (p : ℕ → Bool) → ((k : ℕ) → k < v → p k ≡ false) → count v p ≡ 0
+unfolding count
+count_none zero p e = refl
+count_none (suc v) p e = rw (e v (omega arith), count_none v p (λ k l. e k (omega arith)))
+
+-- Without j, which passes, one fewer passes.
+pub count_without :
+    (v j : ℕ) (p q : ℕ → Bool) → j < v → p j ≡ true → ((k : ℕ) → k < v → q k ≡ (p k && not (eqb k j))) → count v p ≡ suc (count v q)
+unfolding count
+count_without zero j p q h e a = absurd (omega arith)
+count_without (suc v) j p q h e a =
+    by_eq j v (λ d.
+    let x : p v ≡ true = ap p (sym d) ∙ e in
+    let y : q v ≡ false = a v (omega arith) ∙ rw (x, eq-eqb v j (sym d)) in
+    rw (x, y) (let r = count_same v p q (λ k l. kept d k l) in omega arith))
+    (λ d. rw (a v (omega arith), ne_eqb v j (λ y. d (sym y)), and-true (p v)) (let r = count_without v j p q (omega arith) e (λ k l. a k (omega arith)) in omega arith))
+  where
+    kept : j ≡ v → (k : ℕ) → k < v → p k ≡ q k
+    kept d k l = sym (a k (omega arith) ∙ rw (ne_eqb k j (omega arith)) (and-true (p k)))
 
 -- `first` passes where any does, and none before it does.
 pub first_has : (n : ℕ) (p : ℕ → Bool) (k : ℕ) → k < n → p k ≡ true → p (first n p) ≡ true

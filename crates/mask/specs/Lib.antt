@@ -4,3 +4,7 @@
 pub mod Range
 -- Bits, difference, and the mask of a test.
 pub mod Mask
+-- A call of `next` on the members of a mask.
+pub mod Upward
+-- The place that a search finds.
+pub mod Found

@@ -7,44 +7,26 @@ ghost use Rattle.std.specs.Int.Bits.{bit_and};
 ghost use Rattle.mask.specs.Range.{each, count, first};
 ghost use Rattle.mask.specs.Mask.{bit, diff, rest, above};
 
+mod upward;
+mod widths;
+
+pub use upward::{Ascending, members_of};
+pub use widths::Mask;
+
 // Whether the mask holds value k.
-pub fn contains(m: u16, k: usize) -> bool
-    requires { k < 16 }
-    ensures { result ≡ bit m k }
+pub fn contains<M: Mask>(m: M, k: usize) -> bool
+    requires { k < M.width }
+    ensures { result ≡ bit (M.number m) k }
 {
-    (m >> k) % 2 == 1
-}
-
-// The same for a mask of 32 bits.
-pub fn contains_32(m: u32, k: usize) -> bool
-    requires { k < 32 }
-    ensures { result ≡ bit m k }
-{
-    (m >> k) % 2 == 1
-}
-
-// The same for a mask of 64 bits.
-pub fn contains_64(m: u64, k: usize) -> bool
-    requires { k < 64 }
-    ensures { result ≡ bit m k }
-{
-    (m >> k) % 2 == 1
+    m.holds(k)
 }
 
 // The mask of value k alone.
-pub fn single(k: usize) -> u16
-    requires { k < 16 }
-    ensures { result ≡ 2 ^ k }
+pub fn single<M: Mask>(k: usize) -> M
+    requires { k < M.width }
+    ensures { M.number result ≡ 2 ^ k }
 {
-    1 << k
-}
-
-// The same for a mask of 32 bits.
-pub fn single_32(k: usize) -> u32
-    requires { k < 32 }
-    ensures { result ≡ 2 ^ k }
-{
-    1 << k
+    M::only(k)
 }
 
 // The mask of all numbers below n.
@@ -84,50 +66,28 @@ pub fn count_of(m: u16) -> u32
     u16::count_ones(m)
 }
 
-// The smallest value of the mask, or 16 where it is empty.
-pub fn lowest(m: u16) -> u32
-    ensures { result ≡ first 16 (bit m) }
+// The smallest value of the mask, or its width where it is empty.
+pub fn lowest<M: Mask>(m: M) -> u32
+    ensures { result ≡ first M.width (bit (M.number m)) }
 {
-    u16::trailing_zeros(m)
-}
-
-// The same for a mask of 32 bits, or 32.
-pub fn lowest_32(m: u32) -> u32
-    ensures { result ≡ first 32 (bit m) }
-{
-    u32::trailing_zeros(m)
+    m.zeros()
 }
 
 // The mask without its smallest value.
-pub fn rest_of(m: u16) -> u16
-    requires { 1 ≤ m }
-    ensures { result ≡ rest m }
+pub fn rest_of<M: Mask>(m: M) -> M
+    requires { 1 ≤ M.number m }
+    ensures { M.number result ≡ rest (M.number m) }
 {
-    m & (m - 1)
-}
-
-// The same for a mask of 32 bits.
-pub fn rest_of_32(m: u32) -> u32
-    requires { 1 ≤ m }
-    ensures { result ≡ rest m }
-{
-    m & (m - 1)
+    let w = m.wide();
+    M::narrow(w & (w - 1))
 }
 
 // The members of the mask above k.
-pub fn members_above(m: u16, k: usize) -> u16
-    requires { k < 16 }
-    ensures { result ≡ above m k }
+pub fn members_above<M: Mask>(m: M, k: usize) -> M
+    requires { k < M.width }
+    ensures { M.number result ≡ above (M.number m) k }
 {
-    let one = single(k);
-    difference(m, one + (one - 1))
-}
-
-// The same for a mask of 32 bits.
-pub fn members_above_32(m: u32, k: usize) -> u32
-    requires { k < 32 }
-    ensures { result ≡ above m k }
-{
-    let one = single_32(k);
-    m ^ (m & (one + (one - 1)))
+    let w = m.wide();
+    let one: u64 = 1 << k;
+    M::narrow(w ^ (w & (one + (one - 1))))
 }

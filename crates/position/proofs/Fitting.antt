@@ -1,5 +1,5 @@
 -- A position that fits shows its plays, and these are legal; legal plays are shown by a position that fits.
-use mathlib.Core.Bool.{Bool, true, ◌&&◌}
+use mathlib.Core.Bool.{Bool, true}
 use mathlib.Core.Path.{◌≡◌, refl, sym, ap, ap₂, ◌∙◌}
 use mathlib.Core.List.{List, [], ◌∷◌, ◌++◌}
 use Prim.Native.Nat.{ℕ, suc, ◌+◌, ◌-◌, ◌<◌, ◌≤◌}
@@ -42,11 +42,10 @@ place_unplayed plays i m value h = rw (le-ltb i plays h)
 abbrev among : List ℕ → List ℕ → ℕ → Bool
 among masks l j = bit (get_or masks j 0) (get_or l j 0)
 
--- The tests of all 32 places, with that of the number of plays.
-pub fits_tested : (p : Position) (n : ℕ) (masks : List ℕ) (ok r : Bool) (i : ℕ) → i ≡ 32 → ok ≡ each i (λ j. true) (fits_at p masks)
-    → r ≡ (leb p.plays n && ok) → r ≡ fits_in p n masks
+-- The tests of all 32 places decide where there are no more than n plays.
+pub fits-few : (p : Position) (n : ℕ) (masks : List ℕ) (r : Bool) → p.plays ≤ n → r ≡ each 32 (λ j. true) (fits_at p masks) → r ≡ fits_in p n masks
 unfolding fits_in
-fits_tested p n masks ok r i e f g = rw (g, f, e)
+fits-few p n masks r h e = rw (le-leb p.plays n h) e
 
 -- A play that fits is below 16.
 pub played_small : (plays i m value : ℕ) → m < 65536 → i < plays → T (place_fits plays i m value) → value < 16

@@ -18,7 +18,7 @@ use Rattle.position.specs.Position.{plays_of, fits_in, place_mask, Written}
 use Rattle.position.proofs.Fitting.{fits_plays, get_d_plays, length_plays}
 
 -- The first n words as a list.
-list_of-take : (n : ℕ) (w : List ℕ) → n ≤ length w → list_of n (λ i. get_or w i 0) ≡ take n w
+pub list_of-take : (n : ℕ) (w : List ℕ) → n ≤ length w → list_of n (λ i. get_or w i 0) ≡ take n w
 unfolding list_of
 list_of-take zero w h = refl
 list_of-take (suc n) [] h = absurd (omega arith)

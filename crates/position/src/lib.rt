@@ -7,7 +7,6 @@ ghost use Rattle.mask.specs.Mask.{bit};
 ghost use Rattle.position.specs.Position.{shown, pushed, popped, place_fits, fits_in, place_mask, Written};
 
 use mask::{contains, single};
-use refusal::both;
 
 // The options played, in order of play, and zero elsewhere. C hosts hand it in and get it back.
 #[repr(C)]
@@ -32,13 +31,10 @@ pub fn pushed(p: Position, value: u8) -> Position
     requires { p.plays < 32 }
     ensures { result ≡ pushed p value }
 {
-    let plays = p.plays;
-    let mut values = p.values;
-    values[plays] = value;
-    Position {
-        plays: plays + 1,
-        values: values,
-    }
+    let mut next = p;
+    next.values[p.plays] = value;
+    next.plays += 1;
+    next
 }
 
 // The last play taken back.
@@ -46,24 +42,17 @@ pub fn popped(p: Position) -> Position
     requires { (1 ≤ p.plays) × (p.plays ≤ 32) }
     ensures { result ≡ popped p }
 {
-    let last = p.plays - 1;
-    let mut values = p.values;
-    values[last] = 0;
-    Position {
-        plays: last,
-        values: values,
-    }
+    let mut before = p;
+    before.plays -= 1;
+    before.values[before.plays] = 0;
+    before
 }
 
 // Whether the mask holds the value, whatever its size.
 pub fn holds(m: u16, value: usize) -> bool
     ensures { result ≡ bit m value }
 {
-    if value < 16 {
-        contains(m, value)
-    } else {
-        false
-    }
+    value < 16 && contains(m, value)
 }
 
 fn place_fits(plays: usize, i: usize, m: u16, value: u8) -> bool
@@ -80,14 +69,8 @@ fn place_fits(plays: usize, i: usize, m: u16, value: u8) -> bool
 pub fn fits(p: Position, n: usize, domains: &[u16; 32]) -> bool
     ensures { result ≡ fits_in p n domains.now }
 {
-    let plays = p.plays;
-    let mut ok = true;
-    let mut i: usize = 0;
-    while i < 32 {
-        ok = both(place_fits(plays, i, domains[i], p.values[i]), ok);
-        i += 1;
-    }
-    both(plays <= n, ok)
+    let few = p.plays <= n;
+    few && (0..32).all(|i| place_fits(p.plays, i, domains[i], p.values[i]))
 }
 
 fn place_mask(plays: usize, i: usize, m: u16, value: u8) -> u16
@@ -102,10 +85,7 @@ pub fn narrowed_domains(p: Position, n: usize, domains: &[u16; 32], w: &mut [u16
     requires { (n ≤ 32) × (n ≤ length w.old) × T (fits_in p n domains.now) }
     ensures { Written p n domains.now w.old w.new }
 {
-    let plays = p.plays;
-    let mut i: usize = 0;
-    while i < n {
-        w[i] = place_mask(plays, i, domains[i], p.values[i]);
-        i += 1;
+    for i in 0..n {
+        w[i] = place_mask(p.plays, i, domains[i], p.values[i]);
     }
 }

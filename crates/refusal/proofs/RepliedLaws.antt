@@ -2,25 +2,35 @@
 use Prim.Native.Nat.{ℕ}
 use mathlib.Core.Path.{◌≡◌, sym, ap, ◌∙◌}
 use mathlib.Core.List.{List}
-use Rattle.refusal.specs.declared.Verdict.{Verdict}
-use Rattle.refusal.specs.declared.Verdict.TheVariants.{Fine}
-use Rattle.refusal.specs.declared.Verdict.TheVariants.{Refused as Not}
-use Rattle.refusal.specs.Told.{replied, refused}
-use Rattle.refusal.specs.Replied.{replied_for, list_for}
+use Rattle.std.specs.Prelude.{Result, Ok, Err}
+use Rattle.refusal.specs.declared.reason.Reason.{Reason}
+use Rattle.refusal.specs.Chain.{Test}
+use Rattle.refusal.specs.Told.{replied, reason_told}
+use Rattle.refusal.specs.Replied.{passed, replied_for, list_for}
 
-module _ (v t : Verdict) where
-  pub reply_refused : (e p : ℕ) (values : List ℕ) → v ≡ Not e p → v ≡ t → refused e ≡ replied_for t values
+module _ {v : Test} (t : Test) where
+  pub reply_refused : {e : Reason} (values : List ℕ) → v ≡ t → v ≡ Err e → reason_told e ≡ replied_for t values
   unfolding replied_for
-  reply_refused e p values q s = sym (ap (λ (w : Verdict). replied_for w values) (sym s ∙ q))
+  reply_refused values s q = sym (ap (λ (w : Test). replied_for w values) (sym s ∙ q))
 
-  pub reply_told : (r values : List ℕ) → v ≡ Fine → v ≡ t → r ≡ values → replied r ≡ replied_for t values
+  pub reply_told : {u : Unit {0}} {r : List ℕ} (values : List ℕ) → v ≡ t → v ≡ Ok u → r ≡ values → replied r ≡ replied_for t values
   unfolding replied_for
-  reply_told r values q s e = ap replied e ∙ sym (ap (λ (w : Verdict). replied_for w values) (sym s ∙ q))
+  reply_told values s q e = ap replied e ∙ sym (ap (λ (w : Test). replied_for w values) (sym s ∙ q))
 
-  pub list-refused : (e p : ℕ) (new old : List ℕ) → v ≡ Not e p → v ≡ t → old ≡ list_for t new old
+module _ {E : Type 0} {v : Result (Unit {0}) E} (t : Result (Unit {0}) E) where
+  pub list_refused : {e : E} (new old : List ℕ) → v ≡ t → v ≡ Err e → old ≡ list_for t new old
   unfolding list_for
-  list-refused e p new old q s = sym (ap (λ (w : Verdict). list_for w new old) (sym s ∙ q))
+  list_refused new old s q = sym (ap (λ (w : Result (Unit {0}) E). list_for w new old) (sym s ∙ q))
 
-  pub list_left : (r new old : List ℕ) → v ≡ Fine → v ≡ t → r ≡ new → r ≡ list_for t new old
+  pub list_left : {u : Unit {0}} {r : List ℕ} (new old : List ℕ) → v ≡ t → v ≡ Ok u → r ≡ new → r ≡ list_for t new old
   unfolding list_for
-  list_left r new old q s e = e ∙ sym (ap (λ (w : Verdict). list_for w new old) (sym s ∙ q))
+  list_left new old s q e = e ∙ sym (ap (λ (w : Result (Unit {0}) E). list_for w new old) (sym s ∙ q))
+
+  -- A reply behind its tests.
+  pub passed_stops : {A : Type 0} {e : E} (x : A) → v ≡ t → v ≡ Err e → Err e ≡ passed t x
+  unfolding passed
+  passed_stops x s q = sym (ap (λ (w : Result (Unit {0}) E). passed w x) (sym s ∙ q))
+
+  pub passed_goes : {A : Type 0} {u : Unit {0}} {r : A} (x : A) → v ≡ t → v ≡ Ok u → r ≡ x → Ok r ≡ passed t x
+  unfolding passed
+  passed_goes x s q e = ap Ok e ∙ sym (ap (λ (w : Result (Unit {0}) E). passed w x) (sym s ∙ q))

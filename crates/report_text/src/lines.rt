@@ -1,9 +1,8 @@
 // The lines of the text, put at a place of the buffer. Each function replies the place behind its lines; what lies
 // behind the buffer's end is left out.
-ghost use Rattle.std.specs.Prelude.{◌<◌};
+ghost use Rattle.std.specs.Prelude.{cond, ◌<◌};
 ghost use Rattle.buffer.specs.Put.{Put};
-ghost use Rattle.report_text.specs.Text.{number_line, verdict_text, side_of, mark_of};
-ghost use Rattle.report_text.specs.Text.{answer_line, next_line, option_line, option_text, options_text, head_text};
+ghost use Rattle.report_text.specs.Text.{number_line, answer_line, next_line, option_line, option_text, options_text, head_text};
 
 use buffer::{put, put_number};
 use mask::contains;
@@ -24,41 +23,18 @@ pub fn put_head(out: &mut [u8], n: usize, m: usize, set: usize) -> usize
     put_line(out, b, b"rules ", set)
 }
 
-fn put_verdict(out: &mut [u8], at: usize, won: bool) -> usize
-    ensures { Put out.old at (verdict_text won) result out.new }
+// One of two words.
+fn put_word(out: &mut [u8], at: usize, b: bool, yes: &[u8], no: &[u8]) -> usize
+    ensures { Put out.old at (cond b yes.now no.now) result out.new }
 {
-    if won {
-        put(out, at, b"yes")
-    } else {
-        put(out, at, b"no")
-    }
-}
-
-fn put_side(out: &mut [u8], at: usize, universal: bool) -> usize
-    ensures { Put out.old at (side_of universal) result out.new }
-{
-    if universal {
-        put(out, at, b"day")
-    } else {
-        put(out, at, b"shift")
-    }
-}
-
-fn put_mark(out: &mut [u8], at: usize, winning: bool) -> usize
-    ensures { Put out.old at (mark_of winning) result out.new }
-{
-    if winning {
-        put(out, at, b"good")
-    } else {
-        put(out, at, b"bad")
-    }
+    put(out, at, if b { yes } else { no })
 }
 
 pub fn put_answer(out: &mut [u8], at: usize, won: bool) -> usize
     ensures { Put out.old at (answer_line won) result out.new }
 {
     let a = put(out, at, b"answer ");
-    let b = put_verdict(out, a, won);
+    let b = put_word(out, a, won, b"yes", b"no");
     put(out, b, b"\n")
 }
 
@@ -68,7 +44,7 @@ pub fn put_next(out: &mut [u8], at: usize, next: usize, universal: bool) -> usiz
     let a = put(out, at, b"next ");
     let b = put_number(out, a, next);
     let c = put(out, b, b" ");
-    let d = put_side(out, c, universal);
+    let d = put_word(out, c, universal, b"day", b"shift");
     put(out, d, b"\n")
 }
 
@@ -78,7 +54,7 @@ fn put_option_line(out: &mut [u8], at: usize, a: usize, winning: bool) -> usize
     let p = put(out, at, b"option ");
     let q = put_number(out, p, a);
     let r = put(out, q, b" ");
-    let s = put_mark(out, r, winning);
+    let s = put_word(out, r, winning, b"good", b"bad");
     put(out, s, b"\n")
 }
 
@@ -98,10 +74,8 @@ pub fn put_options(out: &mut [u8], at: usize, domain: u16, winning: u16) -> usiz
     ensures { Put out.old at (options_text domain winning 16) result out.new }
 {
     let mut e = at;
-    let mut a = 0;
-    while a < 16 {
+    for a in 0..16 {
         e = put_option(out, e, domain, winning, a);
-        a += 1;
     }
     e
 }

@@ -10,9 +10,12 @@ use lib.Seq.{take_all}
 use borrow.Author.Tests.{le-leb, lt-ltb}
 use Rattle.mask.specs.Mask.{bit}
 use Rattle.mask.proofs.Logic.{holds}
-use Rattle.refusal.specs.declared.Verdict.{Verdict}
-use Rattle.refusal.specs.declared.Verdict.TheVariants.{Fine}
-use Rattle.refusal.specs.declared.Verdict.TheVariants.{Refused as Not}
+use Rattle.std.specs.Prelude.{Result, Ok, Err}
+use Rattle.std.specs.Result.{result_unwrap_or}
+use Rattle.refusal.specs.declared.reason.Fault.{Fault}
+use Rattle.refusal.specs.declared.reason.Refusal.{Refusal}
+use Rattle.refusal.specs.declared.reason.Refusal.TheVariants.{InFile, InCall}
+use Rattle.refusal.specs.Chain.{Test, Fine}
 use Rattle.refusal.specs.Told.{Told, replied, refused, refused_at}
 use Rattle.refusal.specs.Replied.{replied_for}
 use Rattle.refusal.proofs.Chain.{then_ok, need_ok}
@@ -32,19 +35,14 @@ use Rattle.position.specs.declared.Position.{Position}
 use Rattle.position.specs.Position.{shown, plays_of, fits_in}
 use Rattle.position.proofs.Fitting.{legal-fits}
 use Rattle.search_run.specs.Run.{room_needed, held_room}
-use Rattle.judging.specs.declared.Judged.{Judged}
-use Rattle.judging.specs.declared.Judged.TheVariants.{Won, Lost, Refused, RefusedAt}
 use Rattle.judging.specs.Tests.{position_test, judge_test}
 use Rattle.judging.proofs.TestLaws.{room_held}
 use Rattle.judging.specs.Judging.{told, judge_reply, judge_told}
-use Rattle.marking.specs.declared.Marked.{Marked}
-use Rattle.marking.specs.declared.Marked.TheVariants.{Values}
-use Rattle.marking.specs.declared.Marked.TheVariants.{Refused as NoValues, RefusedAt as NoValuesAt}
+use Rattle.marking.specs.declared.Marks.{Marks}
 use Rattle.marking.specs.Marking.{mark_test, mark_reply, mark_told}
 use Rattle.marking.specs.Marking.{told as toldMarks}
-use Rattle.report_text.specs.Text.{reply_text, refused_text}
-use Rattle.reporting.specs.declared.First.{First}
-use Rattle.reporting.specs.Reporting.{problem_text, report_of, Prints, won_by, marks_by, ReportsAccepted}
+use Rattle.report_text.specs.Text.{reply_text}
+use Rattle.reporting.specs.Reporting.{problem_text, fault_text, report_of, Prints, ReportsAccepted}
 
 -- ---- before any play the tests are fine
 
@@ -56,7 +54,7 @@ module _ (P : Problem) (set : ℕ) (small : P.n ≤ 32) (rules : set ≤ greates
 
   fresh-position : position_test P.n P.domain (shown []) set ≡ Fine
   unfolding position_test is_rule_set
-  fresh-position = then_ok _ _ (need_ok _ 8 0 (le-leb set greatest_set rules)) (need_ok _ 23 0 (holds fresh-fits))
+  fresh-position = then_ok _ _ (need_ok _ _ (le-leb set greatest_set rules)) (need_ok _ _ (holds fresh-fits))
 
   fresh_judge : judge_test P.n P.domain (shown []) set (room_needed P) held_room ≡ Fine
   unfolding judge_test
@@ -64,7 +62,7 @@ module _ (P : Problem) (set : ℕ) (small : P.n ≤ 32) (rules : set ≤ greates
 
   fresh_mark : 0 < P.n → mark_test P.n P.domain (shown []) set (room_needed P) held_room ≡ Fine
   unfolding mark_test shown
-  fresh_mark h = then_ok _ _ fresh-position (then_ok _ _ (need_ok _ 22 0 (lt-ltb 0 P.n h)) (room_held P small))
+  fresh_mark h = then_ok _ _ fresh-position (then_ok _ _ (need_ok _ _ (lt-ltb 0 P.n h)) (room_held P small))
 
 -- ---- what is told then
 
@@ -75,30 +73,33 @@ says_one (replied (x ∷ xs)) = eqb x 1
 says_one (refused e) = false
 says_one (refused_at e p) = false
 
-won_says : (j : Judged) → won_by j ≡ says_one (told j)
-unfolding won_by told says_one
-won_says Won = refl
-won_says Lost = refl
-won_says (Refused e) = refl
-won_says (RefusedAt e p) = refl
+won_says : (r : Result Bool Refusal) → result_unwrap_or r false ≡ says_one (told r)
+unfolding says_one
+won_says (Ok true) = refl
+won_says (Ok false) = refl
+won_says (Err (InFile f)) = refl
+won_says (Err (InCall e)) = refl
 
 one_says : (b : Bool) → says_one (replied (cond b 1 0 ∷ [])) ≡ b
 unfolding says_one
 one_says true = refl
 one_says false = refl
 
-masks_in : Told → First
+masks_in : Told → Marks
 masks_in (replied []) = record { winning = 0; domain = 0 }
 masks_in (replied (w ∷ [])) = record { winning = 0; domain = 0 }
 masks_in (replied (w ∷ d ∷ xs)) = record { winning = w; domain = d }
 masks_in (refused e) = record { winning = 0; domain = 0 }
 masks_in (refused_at e p) = record { winning = 0; domain = 0 }
 
-marks_in : (k : Marked) → marks_by k ≡ masks_in (toldMarks k)
-unfolding marks_by toldMarks masks_in
-marks_in (Values w d) = refl
-marks_in (NoValues e) = refl
-marks_in (NoValuesAt e p) = refl
+abbrev pub no_marks : Marks
+no_marks = record { winning = 0; domain = 0 }
+
+marks_in : (r : Result Marks Refusal) → result_unwrap_or r no_marks ≡ masks_in (toldMarks r)
+unfolding masks_in
+marks_in (Ok m) = refl
+marks_in (Err (InFile f)) = refl
+marks_in (Err (InCall e)) = refl
 
 module _ (f : List ℕ) (fine : verdict_of f ≡ Fine) (p : Position) (set words : ℕ) (fresh : p ≡ shown []) (long : words ≡ held_room) (rules : set ≤ greatest_set) where
   abbrev P : Problem
@@ -112,24 +113,24 @@ module _ (f : List ℕ) (fine : verdict_of f ≡ Fine) (p : Position) (set words
   unfolding problem_of
   some = (accepted f fine).head.counts.some
 
-  pub won-first : (j : Judged) → told j ≡ judge_told f p set words → won_by j ≡ verdict P []
+  pub won-first : (r : Result Bool Refusal) → told r ≡ judge_told f p set words → result_unwrap_or r false ≡ verdict P []
   unfolding judge_told judge_reply replied_for plays_of shown
-  won-first j e =
-      won_says j
+  won-first r e =
+      won_says r
       ∙ ap says_one
       (e
       ∙ read_fine f _ _ fine
-      ∙ rw (fresh, long) (ap (λ (v : Verdict). replied_for v (cond (verdict P []) 1 0 ∷ [])) (fresh_judge P set few rules)))
+      ∙ rw (fresh, long) (ap (λ (t : Test). replied_for t (cond (verdict P []) 1 0 ∷ [])) (fresh_judge P set few rules)))
       ∙ one_says (verdict P [])
 
-  pub marks_first : (k : Marked) → toldMarks k ≡ mark_told f p set words → marks_by k ≡ record { winning = winning_values P []; domain = get_or P.domain 0 0 }
+  pub marks_first : (r : Result Marks Refusal) → toldMarks r ≡ mark_told f p set words → result_unwrap_or r no_marks ≡ record { winning = winning_values P []; domain = get_or P.domain 0 0 }
   unfolding mark_told mark_reply replied_for plays_of shown masks_in
-  marks_first k e =
-      let t : toldMarks k ≡ replied (winning_values P [] ∷ get_or P.domain 0 0 ∷ []) =
+  marks_first r e =
+      let t : toldMarks r ≡ replied (winning_values P [] ∷ get_or P.domain 0 0 ∷ []) =
       e
       ∙ read_fine f _ _ fine
-      ∙ rw (fresh, long) (ap (λ (v : Verdict). replied_for v (winning_values P [] ∷ get_or P.domain 0 0 ∷ [])) (fresh_mark P set few rules some)) in
-      marks_in k ∙ ap masks_in t
+      ∙ rw (fresh, long) (ap (λ (t : Test). replied_for t (winning_values P [] ∷ get_or P.domain 0 0 ∷ [])) (fresh_mark P set few rules some)) in
+      marks_in r ∙ ap masks_in t
 
 -- ---- the texts
 
@@ -154,6 +155,6 @@ accepted_holds f h s set universal e g l r l' o =
     subst (λ (t : List ℕ). Prints t l r l') (accepted_text f h s set universal e g) (o s.fine k)
 
 -- The text of a refused one.
-pub refused-text : (f : List ℕ) (e p : ℕ) → verdict_of f ≡ Not e p → refused_text e p ≡ report_of f
+pub refused-text : (f : List ℕ) (e : Fault) → verdict_of f ≡ Err e → fault_text e ≡ report_of f
 unfolding report_of
-refused-text f e p q = sym (read_refused f _ _ e p q)
+refused-text f e q = sym (read_refused f _ _ e q)

@@ -1,6 +1,8 @@
 -- What the judging program prints of the bytes of a file.
-use Rattle.std.specs.Prelude.{ℕ, ◌≤◌, ◌≡◌, Bool, true, false, List, [], ◌++◌, get_or, length, drop}
-use Rattle.refusal.specs.declared.Verdict.TheVariants.{Fine}
+use Rattle.std.specs.Prelude.{ℕ, ◌≤◌, ◌≡◌, Bool, List, [], ◌++◌, get_or, length, drop}
+use Rattle.refusal.specs.declared.reason.Fault.{Fault}
+use Rattle.refusal.specs.Reason.{number_of}
+use Rattle.refusal.specs.Chain.{Fine}
 use Rattle.rule_set.specs.RuleSet.{greatest_set}
 use Rattle.file_layout.specs.Layout.{m_of, rules_of}
 use Rattle.file_records.specs.Records.{verdict_of}
@@ -9,21 +11,20 @@ use Rattle.game.specs.Problem.{Problem}
 use Rattle.game.specs.Winning.{verdict, winning_values}
 use Rattle.file_decoder.specs.FileProblem.{problem_of}
 use Rattle.file_decoder.specs.Read.{read_first}
-use Rattle.judging.specs.declared.Judged.{Judged}
-use Rattle.judging.specs.declared.Judged.TheVariants.{Won, Lost, Refused, RefusedAt}
-use Rattle.marking.specs.declared.Marked.{Marked}
-use Rattle.marking.specs.declared.Marked.TheVariants.{Values}
-use Rattle.marking.specs.declared.Marked.TheVariants.{Refused as NoValues, RefusedAt as NoValuesAt}
+use Rattle.marking.specs.declared.Marks.{Marks}
 use Rattle.report_text.specs.Text.{reply_text, refused_text}
-use Rattle.reporting.specs.declared.First.{First}
 
 -- The text for a problem with m constraints, before any play.
 unfoldable pub problem_text : Problem → ℕ → ℕ → List ℕ
 problem_text P m set = reply_text P.n m set (verdict P []) 0 (P.universal 0) (get_or P.domain 0 0) (winning_values P [])
 
+-- The line of a refused file.
+unfoldable pub fault_text : Fault → List ℕ
+fault_text e = refused_text (number_of e.reason) e.place
+
 -- The text for the bytes f.
 unfoldable pub report_of : List ℕ → List ℕ
-report_of f = read_first f refused_text (λ P. problem_text P (m_of f) (rules_used (rules_of f)))
+report_of f = read_first f fault_text (λ P. problem_text P (m_of f) (rules_used (rules_of f)))
 
 -- The buffer l becomes l': the text, which ends at r, and behind it what was there.
 pub record Prints (text l : List ℕ) (r : ℕ) (l' : List ℕ) : Type 0 where
@@ -32,23 +33,11 @@ pub record Prints (text l : List ℕ) (r : ℕ) (l' : List ℕ) : Type 0 where
 
 -- ---- inner functions
 
--- Whether an answer says won; the masks that an answer has, or none.
-unfoldable pub won_by : Judged → Bool
-won_by Won = true
-won_by Lost = false
-won_by (Refused e) = false
-won_by (RefusedAt e p) = false
-
-unfoldable pub marks_by : Marked → First
-marks_by (Values winning domain) = record { winning = winning; domain = domain }
-marks_by (NoValues e) = record { winning = 0; domain = 0 }
-marks_by (NoValuesAt e p) = record { winning = 0; domain = 0 }
-
 -- Of an accepted file, under a rule set: its verdict, the marks of its first variable, its text.
 abbrev pub JudgesFirst : List ℕ → ℕ → Bool → Type 0
 JudgesFirst f set r = (fine : verdict_of f ≡ Fine) → set ≤ greatest_set → r ≡ verdict (problem_of f fine) []
 
-abbrev pub MarksFirst : List ℕ → ℕ → First → Type 0
+abbrev pub MarksFirst : List ℕ → ℕ → Marks → Type 0
 MarksFirst f set r =
     (fine : verdict_of f ≡ Fine) → set ≤ greatest_set
     → (r.winning ≡ winning_values (problem_of f fine) []) × (r.domain ≡ get_or (problem_of f fine).domain 0 0)

@@ -7,17 +7,10 @@ ghost use Rattle.reporting.specs.Reporting.{report_of, ReportsAccepted};
 
 mod opening;
 
-use file_reader::{Header, read, rules_used};
-use mask::contains_32;
+use file_reader::{read, rules_used};
+use mask::contains;
 use opening::{first_marks, is_won};
 use report_text::{render_refusal, render_reply};
-
-// The winning values of the first variable, and its domain.
-#[derive(Clone, Copy)]
-pub struct First {
-    pub winning: u16,
-    pub domain: u16,
-}
 
 // The text for an accepted file.
 fn report_accepted(
@@ -42,20 +35,19 @@ pub fn report_file(f: &[u8], out: &mut [u8; 1024]) -> usize
     ensures value { result ≡ length (report_of f.now) }
     ensures out_after { out.new ≡ report_of f.now ++ drop (length (report_of f.now)) out.old }
 {
-    let r = read(f);
-    let h = r.header;
-    match h {
-        Header::Refused(number, place) => render_refusal(number as usize, place, out),
-        Header::Accepted(head) => {
+    match read(f) {
+        Ok(r) => {
+            let head = r.head;
             let rules = head.rules;
             report_accepted(
                 f,
                 head.n as usize,
                 head.m as usize,
                 rules_used(rules) as usize,
-                contains_32(head.universal, 0),
+                contains(head.universal, 0),
                 out,
             )
         }
+        Err(fault) => render_refusal(u8::from(fault.reason) as usize, fault.place, out),
     }
 }

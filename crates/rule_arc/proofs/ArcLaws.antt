@@ -20,19 +20,20 @@ use Rattle.rule_arc_passes.proofs.Sheets.{sheet_in, sheet_sized, removals}
 use Rattle.rule_arc.specs.Loss.{emptied_in, bars_in, loss, conflict}
 use Rattle.rule_arc.specs.ArcRule.{CalmBut, FullBut, Arced}
 use Rattle.rule_arc.proofs.LossLaws.{loss_is, conflict_is}
+use Rattle.solver_arrays.specs.declared.arrays.Arrays.{Arrays}
 
-module _ (P : Problem) (universal : ℕ) (near index rows : List ℕ) (w v : List ℕ) (lost : Bool) (c : ℕ) (long : 96 ≤ length w) (small : (k : ℕ) → get_or w k 0 < 65536)
+module _ (P : Problem) (A : Arrays) (w v : List ℕ) (lost : Bool) (c : ℕ) (long : 96 ≤ length w) (small : (k : ℕ) → get_or w k 0 < 65536)
     (changed touched : ℕ) (t : Touched changed touched w v) where
   abbrev Goal : ℕ → Type 0
-  Goal n = States P n universal near index rows → CalmBut n changed near index rows universal w → v ≡ holding n w (revisions P (sheet_in n w)).list (revisions P (sheet_in n w)).why
-      → lost ≡ loss near index rows universal touched v n → c ≡ conflict near index rows universal touched v n → Arced P n w v lost c
+  Goal n = States P n A → CalmBut n changed A w → v ≡ holding n w (revisions P (sheet_in n w)).list (revisions P (sheet_in n w)).why
+      → lost ≡ loss A touched v n → c ≡ conflict A touched v n → Arced P n w v lost c
 
   own : Goal P.n
   unfolding explain_arc
   own st calm e f g = record {
     words = e;
-    loss = f ∙ loss_is P universal touched near index rows st v s.list s.why dom why z.small clear;
-    set = λ t. g ∙ conflict_is P universal touched near index rows st v s.list s.why dom why z.small clear (true_holds (sym f ∙ t));
+    loss = f ∙ loss_is P touched A st v s.list s.why dom why z.small clear;
+    set = λ t. g ∙ conflict_is P touched A st v s.list s.why dom why z.small clear (true_holds (sym f ∙ t));
   }
     where
       s : Sheet
@@ -48,17 +49,17 @@ module _ (P : Problem) (universal : ℕ) (near index rows : List ℕ) (w v : Lis
       why x l = ap (λ u. reason_in u x) e ∙ holding_reason P.n st.most w long s.list s.why x l
 
       -- The domains of a universal variable and of one outside the mask are as they were.
-      clear : (x k : ℕ) → x < P.n → k < P.n → bit touched k ≡ false → T (bit (get_or near x 0) k) → bit universal x ≡ true → bars_in index rows universal x k (get_or v x 0) (get_or v k 0) ≡ false
+      clear : (x k : ℕ) → x < P.n → k < P.n → bit touched k ≡ false → T (bit (get_or A.near x 0) k) → bit A.universal x ≡ true → bars_in A x k (get_or v x 0) (get_or v k 0) ≡ false
       clear x k lx lk b i u =
           let m = st.most in
           let o = t k (omega arith) b in
-          ap₂ (bars_in index rows universal x k) (dom x lx ∙ revisions-keep P x (st.side x lx ∙ u) (sheet_in P.n w) ∙ get_d_list_in P.n w x lx) o.1
+          ap₂ (bars_in A x k) (dom x lx ∙ revisions-keep P x (st.side x lx ∙ u) (sheet_in P.n w) ∙ get_d_list_in P.n w x lx) o.1
           ∙ (calm x k lx lk o.0).clear i u
 
-  pub arced : (n : ℕ) → States P n universal near index rows → CalmBut n changed near index rows universal w → v ≡ removed_in near index rows universal n changed w
-      → lost ≡ loss near index rows universal touched v n → c ≡ conflict near index rows universal touched v n → Arced P n w v lost c
+  pub arced : (n : ℕ) → States P n A → CalmBut n changed A w → v ≡ removed_in A n changed w
+      → lost ≡ loss A touched v n → c ≡ conflict A touched v n → Arced P n w v lost c
   arced n st calm e f g =
-      subst Goal st.size own st calm (e ∙ removals P universal near index rows w long small changed n st (λ x k lx lk b i. (calm x k lx lk b).rests i)) f g
+      subst Goal st.size own st calm (e ∙ removals P A w long small changed n st (λ x k lx lk b i. (calm x k lx lk b).rests i)) f g
 
 -- An emptied variable has lost values, or was looked at.
 pub emptied_touched : (n universal changed touched : ℕ) (w v : List ℕ) → n ≤ 32 → FullBut n changed w → Touched changed touched w v → (x : ℕ) → x < n → T (emptied_in universal v x) → T (bit touched x)

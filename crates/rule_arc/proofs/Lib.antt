@@ -1,7 +1,5 @@
 -- The loss that the code finds is rule 1's.
 
--- Searches for the first that passes.
-pub mod FirstLaws
 -- The steps of the code against specs/Loss.antt.
 pub mod LossSteps
 -- The loss of specs/Loss.antt is rule 1's.

@@ -24,12 +24,13 @@ use Rattle.solver_arrays.specs.Arrays.{row_in, supported_in, common_in, States}
 use Rattle.solver_arrays.specs.Words.{reason_in}
 use Rattle.rule_arc_passes.proofs.Support.{some_back, each_back}
 use Rattle.rule_arc.specs.Loss.{emptied_in, bars_in, barrier, stopped, loss, conflict}
+use Rattle.solver_arrays.specs.declared.arrays.Arrays.{Arrays}
 
 -- Whole masks say whether k bars a value of x.
-module _ (P : Problem) (n universal : ℕ) (near index rows : List ℕ) (st : States P n universal near index rows) (l : List ℕ) where
-  pub bars_is : (x k : ℕ) → x < n → k < n → bars_in index rows universal x k (get_or l x 0) (get_or l k 0) ≡ some 16 (domains l x) (λ a. barred P (domains l) x a k)
+module _ (P : Problem) (n : ℕ) (A : Arrays) (st : States P n A) (l : List ℕ) where
+  pub bars_is : (x k : ℕ) → x < n → k < n → bars_in A x k (get_or l x 0) (get_or l k 0) ≡ some 16 (domains l x) (λ a. barred P (domains l) x a k)
   unfolding bars_in barred clashes alone domains common_in supported_in
-  bars_is x k lx lk = rw (st.side k lk) (go (bit universal k))
+  bars_is x k lx lk = rw (st.side k lk) (go (bit A.universal k))
     where
       u : ℕ
       u = get_or l x 0
@@ -38,10 +39,10 @@ module _ (P : Problem) (n universal : ℕ) (near index rows : List ℕ) (st : St
       v = get_or l k 0
 
       c : ℕ → Bool
-      c a = each 16 (bit v) (λ b. bit (row_in index rows k b x) a)
+      c a = each 16 (bit v) (λ b. bit (row_in A k b x) a)
 
       s : ℕ → Bool
-      s a = some 16 (bit v) (λ b. bit (row_in index rows k b x) a)
+      s a = some 16 (bit v) (λ b. bit (row_in A k b x) a)
 
       out : (q : ℕ → Bool) → not (each 16 (bit u) (bit (mask_of 16 q))) ≡ some 16 (bit u) (λ a. not (q a))
       out q =
@@ -51,35 +52,35 @@ module _ (P : Problem) (n universal : ℕ) (near index rows : List ℕ) (st : St
       go : (b : Bool) → cond b (not (each 16 (bit u) (bit (mask_of 16 c)))) (ltb x k && not (each 16 (bit u) (bit (mask_of 16 s))))
           ≡ some 16 (bit u) (λ a. cond b (some 16 (bit v) (λ b. not (P.compatible x a k b))) (ltb x k && not (some 16 (bit v) (λ b. P.compatible x a k b))))
       go true = out c ∙ some_eq 16 (bit u) (λ a. not (c a)) (λ a. some 16 (bit v) (λ b. not (P.compatible x a k b)))
-          (λ a la. sym (ap not (each_back P n universal near index rows st x k lx lk v a la)) ∙ not-not (some 16 (bit v) (λ b. not (P.compatible x a k b))))
+          (λ a la. sym (ap not (each_back P n A st x k lx lk v a la)) ∙ not-not (some 16 (bit v) (λ b. not (P.compatible x a k b))))
       go false =
-          ap (λ (b : Bool). ltb x k && b) (out s ∙ some_eq 16 (bit u) (λ a. not (s a)) (λ a. not (some 16 (bit v) (λ b. P.compatible x a k b))) (λ a la. ap not (sym (some_back P n universal near index rows st x k lx lk v a la))))
+          ap (λ (b : Bool). ltb x k && b) (out s ∙ some_eq 16 (bit u) (λ a. not (s a)) (λ a. not (some 16 (bit v) (λ b. P.compatible x a k b))) (λ a la. ap not (sym (some_back P n A st x k lx lk v a la))))
           ∙ some_front 16 (bit u) (λ a. not (some 16 (bit v) (λ b. P.compatible x a k b))) (ltb x k)
 
-module _ (P : Problem) (universal touched : ℕ) (near index rows : List ℕ) (st : States P P.n universal near index rows)
+module _ (P : Problem) (touched : ℕ) (A : Arrays) (st : States P P.n A)
     (w l R : List ℕ) (dom : (x : ℕ) → x < P.n → get_or w x 0 ≡ get_or l x 0) (why : (x : ℕ) → x < P.n → reason_in w x ≡ get_or R x 0) (small : (x : ℕ) → get_or l x 0 < 65536)
-    (clear : (x k : ℕ) → x < P.n → k < P.n → bit touched k ≡ false → T (bit (get_or near x 0) k) → bit universal x ≡ true → bars_in index rows universal x k (get_or w x 0) (get_or w k 0) ≡ false) where
+    (clear : (x k : ℕ) → x < P.n → k < P.n → bit touched k ≡ false → T (bit (get_or A.near x 0) k) → bit A.universal x ≡ true → bars_in A x k (get_or w x 0) (get_or w k 0) ≡ false) where
   open P use {n, constrained}
 
   abbrev D : Domains
   D = domains l
 
-  emptied_is : (x : ℕ) → x < n → emptied_in universal w x ≡ emptied P D x
+  emptied_is : (x : ℕ) → x < n → emptied_in A.universal w x ≡ emptied P D x
   unfolding emptied_in emptied empty domains
   emptied_is x lx = rw (st.side x lx, dom x lx, empty-some 16 (get_or l x 0) (small x))
 
   -- The test of a neighbour of x.
   abbrev bar : ℕ → ℕ → Bool
-  bar x k = bit (bit_and (get_or near x 0) touched) k && bars_in index rows universal x k (get_or w x 0) (get_or w k 0)
+  bar x k = bit (bit_and (get_or A.near x 0) touched) k && bars_in A x k (get_or w x 0) (get_or w k 0)
 
-  against_all : (x k : ℕ) → x < n → k < n → against P D x k ≡ (bit universal x && (bit (get_or near x 0) k && bars_in index rows universal x k (get_or w x 0) (get_or w k 0)))
+  against_all : (x k : ℕ) → x < n → k < n → against P D x k ≡ (bit A.universal x && (bit (get_or A.near x 0) k && bars_in A x k (get_or w x 0) (get_or w k 0)))
   unfolding against
-  against_all x k lx lk = rw (st.side x lx, st.joined x k lx lk, dom x lx, dom k lk, bars_is P n universal near index rows st l x k lx lk)
+  against_all x k lx lk = rw (st.side x lx, st.joined x k lx lk, dom x lx, dom k lk, bars_is P n A st l x k lx lk)
 
   -- A variable outside the mask bars nothing.
-  against_is : (x k : ℕ) → x < n → k < n → against P D x k ≡ (bit universal x && bar x k)
-  against_is x k lx lk = against_all x k lx lk ∙ rw (bit-bit_and (get_or near x 0) touched k)
-      (go (bit universal x) (bit (get_or near x 0) k) (bit touched k) (bars_in index rows universal x k (get_or w x 0) (get_or w k 0)) (λ f t u. clear x k lx lk f t u))
+  against_is : (x k : ℕ) → x < n → k < n → against P D x k ≡ (bit A.universal x && bar x k)
+  against_is x k lx lk = against_all x k lx lk ∙ rw (bit-bit_and (get_or A.near x 0) touched k)
+      (go (bit A.universal x) (bit (get_or A.near x 0) k) (bit touched k) (bars_in A x k (get_or w x 0) (get_or w k 0)) (λ f t u. clear x k lx lk f t u))
     where
       go : (u a b s : Bool) → (b ≡ false → T a → u ≡ true → s ≡ false) → (u && (a && s)) ≡ (u && ((a && b) && s))
       go true true true s h = refl
@@ -88,31 +89,31 @@ module _ (P : Problem) (universal touched : ℕ) (near index rows : List ℕ) (s
       go false a b s h = refl
 
   bar_inside : (x k : ℕ) → x < n → T (bar x k) → k < n
-  bar_inside x k lx t = by_lt k n (λ h. h) (λ h. absurd (clash (st.inside x k lx h ∙ bit_of_zero k) (and_out (bit (get_or near x 0) k) (bit touched k) (rw (bit-bit_and (get_or near x 0) touched k) at (and_out (bit (bit_and (get_or near x 0) touched) k) _ t).0)).0))
+  bar_inside x k lx t = by_lt k n (λ h. h) (λ h. absurd (clash (st.inside x k lx h ∙ bit_of_zero k) (and_out (bit (get_or A.near x 0) k) (bit touched k) (rw (bit-bit_and (get_or A.near x 0) touched k) at (and_out (bit (bit_and (get_or A.near x 0) touched) k) _ t).0)).0))
 
-  stopped_is : (x : ℕ) → x < n → stopped near index rows universal touched w x ≡ some n (against P D x) (λ k. true)
+  stopped_is : (x : ℕ) → x < n → stopped A touched w x ≡ some n (against P D x) (λ k. true)
   unfolding stopped barrier
   stopped_is x lx =
-      same (bit universal x && ltb (first 32 (bar x)) 32) (some n (against P D x) (λ k. true))
-      (λ t. let p = and_out (bit universal x) (ltb (first 32 (bar x)) 32) t in
+      same (bit A.universal x && ltb (first 32 (bar x)) 32) (some n (against P D x) (λ k. true))
+      (λ t. let p = and_out (bit A.universal x) (ltb (first 32 (bar x)) 32) t in
       let b = first_of 32 (bar x) (ltb-true (first 32 (bar x)) 32 (holds {b = ltb (first 32 (bar x)) 32} p.1)) in
       let h = bar_inside x (first 32 (bar x)) lx b in
-      some_in n (against P D x) (λ k. true) (first 32 (bar x)) h (rw (against_is x (first 32 (bar x)) lx h) (and_in (bit universal x) (bar x (first 32 (bar x))) p.0 b)) tt)
+      some_in n (against P D x) (λ k. true) (first 32 (bar x)) h (rw (against_is x (first 32 (bar x)) lx h) (and_in (bit A.universal x) (bar x (first 32 (bar x))) p.0 b)) tt)
       (λ t. let r = some_out n (against P D x) (λ k. true) t in
-      let p = and_out (bit universal x) (bar x r.0) (rw (against_is x r.0 lx r.1) at r.2) in
+      let p = and_out (bit A.universal x) (bar x r.0) (rw (against_is x r.0 lx r.1) at r.2) in
       let m = st.most in let h = r.1 in
-      and_in (bit universal x) (ltb (first 32 (bar x)) 32) p.0 (true_holds (lt-ltb (first 32 (bar x)) 32 (first_below 32 (bar x) r.0 (omega arith) p.1))))
+      and_in (bit A.universal x) (ltb (first 32 (bar x)) 32) p.0 (true_holds (lt-ltb (first 32 (bar x)) 32 (first_below 32 (bar x) r.0 (omega arith) p.1))))
 
   -- The barrier of a stopped variable is the first that it is against.
-  barrier_is : (x : ℕ) → x < n → T (some n (against P D x) (λ k. true)) → (first n (against P D x) < n) × (barrier index rows universal w x (bit_and (get_or near x 0) touched) ≡ first n (against P D x))
+  barrier_is : (x : ℕ) → x < n → T (some n (against P D x) (λ k. true)) → (first n (against P D x) < n) × (barrier A w x (bit_and (get_or A.near x 0) touched) ≡ first n (against P D x))
   unfolding barrier
   barrier_is x lx t =
       let r = some_out n (against P D x) (λ k. true) t in
       let h = first_below n (against P D x) r.0 r.1 r.2 in
       let k : ℕ = first n (against P D x) in
-      let p = and_out (bit universal x) (bar x k) (rw (against_is x k lx h) at (first_of n (against P D x) h)) in
+      let p = and_out (bit A.universal x) (bar x k) (rw (against_is x k lx h) at (first_of n (against P D x) h)) in
       let m = st.most in
-      (h, first_is 32 (bar x) k (omega arith) p.1 (λ j g. fails {b = bar x j} λ b. clash (first_least n (against P D x) j g) (rw (against_is x j lx (omega arith)) (and_in (bit universal x) (bar x j) p.0 b))))
+      (h, first_is 32 (bar x) k (omega arith) p.1 (λ j g. fails {b = bar x j} λ b. clash (first_least n (against P D x) j g) (rw (against_is x j lx (omega arith)) (and_in (bit A.universal x) (bar x j) p.0 b))))
 
   -- The lowest emptied, and the lowest stopped variable.
   abbrev low : ℕ
@@ -121,11 +122,11 @@ module _ (P : Problem) (universal touched : ℕ) (near index rows : List ℕ) (s
   abbrev stop : ℕ
   stop = first n (λ y. some n (against P D y) (λ k. true))
 
-  low_is : first n (emptied_in universal w) ≡ low
-  low_is = first-agree n (emptied_in universal w) (emptied P D) emptied_is
+  low_is : first n (emptied_in A.universal w) ≡ low
+  low_is = first-agree n (emptied_in A.universal w) (emptied P D) emptied_is
 
-  stop_is : first n (stopped near index rows universal touched w) ≡ stop
-  stop_is = first-agree n (stopped near index rows universal touched w) (λ y. some n (against P D y) (λ k. true)) stopped_is
+  stop_is : first n (stopped A touched w) ≡ stop
+  stop_is = first-agree n (stopped A touched w) (λ y. some n (against P D y) (λ k. true)) stopped_is
 
   -- What loses at variable x.
   abbrev fault : ℕ → Bool
@@ -163,7 +164,7 @@ module _ (P : Problem) (universal touched : ℕ) (near index rows : List ℕ) (s
           or_right (ltb low n) (ltb stop n) (true_holds (lt-ltb stop n (first_below n (λ y. some n (against P D y) (λ k. true)) x lx (some_in n (against P D x) (λ k. true) q.0 q.1 g tt))))
       go false u t = or_left (ltb low n) (ltb stop n) (true_holds (lt-ltb low n (first_below n (emptied P D) x lx (and_in (not (P.universal x)) (empty P D x) (rw u tt) t))))
 
-  pub loss_is : loss near index rows universal touched w n ≡ arc_loss P D
+  pub loss_is : loss A touched w n ≡ arc_loss P D
   unfolding loss arc_loss
   loss_is = rw (low_is, stop_is) (same (ltb low n || ltb stop n) (some n (λ x. true) fault) into (λ t. let r = some_out n (λ x. true) fault t in fault_out r.0 r.1 r.3))
     where
@@ -174,7 +175,7 @@ module _ (P : Problem) (universal touched : ℕ) (near index rows : List ℕ) (s
           let r = some_out n (against P D stop) (λ k. true) (first_of n (λ y. some n (against P D y) (λ k. true)) h) in
           some_in n (λ x. true) fault stop h tt (against-fault stop r.0 r.1 r.2))
 
-  pub conflict_is : T (loss near index rows universal touched w n) → conflict near index rows universal touched w n ≡ arc_conflict P l R
+  pub conflict_is : T (loss A touched w n) → conflict A touched w n ≡ arc_conflict P l R
   unfolding loss conflict arc_conflict
   conflict_is t = rw (low_is, stop_is) (by_lt low n
       (λ h. rw (lt-ltb low n h) (why low h))

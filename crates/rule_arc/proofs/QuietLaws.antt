@@ -24,14 +24,15 @@ use Rattle.rule_arc_passes.proofs.Support.{surviving-leaves}
 use Rattle.rule_arc.specs.Loss.{bars_in}
 use Rattle.rule_arc.specs.ArcRule.{Calm}
 use Rattle.rule_arc.proofs.LossLaws.{bars_is}
+use Rattle.solver_arrays.specs.declared.arrays.Arrays.{Arrays}
 
 -- On the words of a turn.
-module _ (P : Problem) (n universal : ℕ) (near index rows : List ℕ) (st : States P n universal near index rows) (w : List ℕ) (small : (k : ℕ) → get_or w k 0 < 65536) where
-  pub calm_in : (x k : ℕ) → x < n → k < n → Quiet P (domains (list_in n w)) x k → Calm near index rows universal w x k
+module _ (P : Problem) (n : ℕ) (A : Arrays) (st : States P n A) (w : List ℕ) (small : (k : ℕ) → get_or w k 0 < 65536) where
+  pub calm_in : (x k : ℕ) → x < n → k < n → Quiet P (domains (list_in n w)) x k → Calm A w x k
   unfolding surviving domains
   calm_in x k lx lk q = record {
-    rests = λ t u. sym (ap₂ (λ u v. bit_and u (leaves index rows universal x k v)) dx dk) ∙ sym (surviving-leaves P n universal near index rows st l x k lx lk (rw dx (small x))) ∙ whole (st.side x lx ∙ u) (rw (st.joined x k lx lk) t) ∙ dx;
-    clear = λ t u. sym (ap₂ (bars_in index rows universal x k) dx dk) ∙ bars_is P n universal near index rows st l x k lx lk ∙ none (st.side x lx ∙ u) (rw (st.joined x k lx lk) t);
+    rests = λ t u. sym (ap₂ (λ u v. bit_and u (leaves A x k v)) dx dk) ∙ sym (surviving-leaves P n A st l x k lx lk (rw dx (small x))) ∙ whole (st.side x lx ∙ u) (rw (st.joined x k lx lk) t) ∙ dx;
+    clear = λ t u. sym (ap₂ (bars_in A x k) dx dk) ∙ bars_is P n A st l x k lx lk ∙ none (st.side x lx ∙ u) (rw (st.joined x k lx lk) t);
   }
     where
       l : List ℕ

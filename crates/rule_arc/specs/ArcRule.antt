@@ -7,6 +7,7 @@ use Rattle.solver_arrays.specs.Arrays.{States}
 use Rattle.solver_arrays.specs.Words.{list_in, why_in, holding}
 use Rattle.rule_arc_passes.specs.Passes.{Rests}
 use Rattle.rule_arc.specs.Loss.{bars_in}
+use Rattle.solver_arrays.specs.declared.arrays.Arrays.{Arrays}
 
 -- For the problem that the arrays state: the words hold the list and the reasons that rule 1 leaves, and the reply is its loss with, where it
 -- is lost, its conflict set.
@@ -16,18 +17,18 @@ pub record Arced (P : Problem) (n : ℕ) (entry exit : List ℕ) (lost : Bool) (
   pub set : lost ≡ true → conflict ≡ (explain_arc P (list_in n entry) (why_in n entry)).set
 
 -- Variable k has no effect on x: no value of an existential x dies because of it, and it bars no value of a universal x.
-pub record Calm (near index rows : List ℕ) (universal : ℕ) (w : List ℕ) (x k : ℕ) : Type 0 where
-  pub rests : T (bit (get_or near x 0) k) → Rests index rows universal w x k
-  pub clear : T (bit (get_or near x 0) k) → bit universal x ≡ true → bars_in index rows universal x k (get_or w x 0) (get_or w k 0) ≡ false
+pub record Calm (A : Arrays) (w : List ℕ) (x k : ℕ) : Type 0 where
+  pub rests : T (bit (get_or A.near x 0) k) → Rests A w x k
+  pub clear : T (bit (get_or A.near x 0) k) → bit A.universal x ≡ true → bars_in A x k (get_or w x 0) (get_or w k 0) ≡ false
 
 -- So has every variable outside the mask changed.
-abbrev pub CalmBut : (n changed : ℕ) (near index rows : List ℕ) (universal : ℕ) (w : List ℕ) → Type 0
-CalmBut n changed near index rows universal w = (x k : ℕ) → x < n → k < n → bit changed k ≡ false → Calm near index rows universal w x k
+abbrev pub CalmBut : (n changed : ℕ) (A : Arrays) (w : List ℕ) → Type 0
+CalmBut n changed A w = (x k : ℕ) → x < n → k < n → bit changed k ≡ false → Calm A w x k
 
 -- No domain outside the mask changed is empty.
 abbrev pub FullBut : ℕ → ℕ → List ℕ → Type 0
 FullBut n changed w = (x : ℕ) → x < n → bit changed x ≡ false → ¬ (get_or w x 0 ≡ 0)
 
 -- For every problem that the arrays state.
-abbrev pub ArcSteps : (n universal : ℕ) (near index rows entry exit : List ℕ) (lost : Bool) (conflict : ℕ) → Type 0
-ArcSteps n universal near index rows entry exit lost conflict = (P : Problem) → States P n universal near index rows → Arced P n entry exit lost conflict
+abbrev pub ArcSteps : (A : Arrays) (entry exit : List ℕ) (lost : Bool) (conflict : ℕ) → Type 0
+ArcSteps A entry exit lost conflict = (P : Problem) → States P A.n A → Arced P A.n entry exit lost conflict

@@ -25,6 +25,7 @@ use Rattle.rule_arc_passes.proofs.Revising.{Still, Revised, kept, cut, revised, 
 use Rattle.rule_arc_passes.proofs.Waiting.{looks, Sized, Ready, revise_sized, looks_sized, looks-over, looks_falls, looks-universal, ready_first, ready_look, ready_looked, ready_none, ready_next}
 use Rattle.rule_arc_passes.specs.Passes.{leaves, cause_of, lessened, revise_in, look_from, lost_at, noted, Progress, progress, pass_in, passes_in, removed_in, Rests}
 use Rattle.rule_arc_passes.proofs.Support.{surviving-leaves, cause_of_lem}
+use Rattle.solver_arrays.specs.declared.arrays.Arrays.{Arrays}
 
 -- The list and the reasons that words hold, and words with others in their places.
 abbrev pub sheet_in : ℕ → List ℕ → Sheet
@@ -43,7 +44,7 @@ pub noted_on : (dirty x : ℕ) → T (bit (noted dirty x true) x)
 unfolding noted
 noted_on dirty x = true_holds (bit-bit_or dirty (2 ^ x) x ∙ rw (bit_single x x, eq-eqb x x refl) (or-true (bit dirty x)))
 
-module _ (P : Problem) (universal : ℕ) (near index rows : List ℕ) (st : States P P.n universal near index rows) (w : List ℕ) (long : 96 ≤ length w) where
+module _ (P : Problem) (A : Arrays) (st : States P P.n A) (w : List ℕ) (long : 96 ≤ length w) where
   open P use {n, constrained}
 
   -- The words w with a list and its reasons in their places.
@@ -56,27 +57,27 @@ module _ (P : Problem) (universal : ℕ) (near index rows : List ℕ) (st : Stat
 
     -- One revision.
     module _ (x k : ℕ) (lx : x < n) (lk : k < n) where
-      mask_left : bit_and (get_or (put s) x 0) (leaves index rows universal x k (get_or (put s) k 0)) ≡ surviving P s.list x k
-      mask_left = ap₂ (λ u v. bit_and u (leaves index rows universal x k v)) (domain_at_lem x lx) (domain_at_lem k lk) ∙ sym (surviving-leaves P n universal near index rows st s.list x k lx lk (z.small x))
+      mask_left : bit_and (get_or (put s) x 0) (leaves A x k (get_or (put s) k 0)) ≡ surviving P s.list x k
+      mask_left = ap₂ (λ u v. bit_and u (leaves A x k v)) (domain_at_lem x lx) (domain_at_lem k lk) ∙ sym (surviving-leaves P n A st s.list x k lx lk (z.small x))
 
-      lessened_is : lessened x (surviving P s.list x k) (cause_of universal x k (reason_in (put s) k)) (put s) ≡ put (revised P x k s)
+      lessened_is : lessened x (surviving P s.list x k) (cause_of A.universal x k (reason_in (put s) k)) (put s) ≡ put (revised P x k s)
       unfolding lessened
       lessened_is =
           let m = surviving P s.list x k in
           let c = cause P s.why x k in
           ap₂ (λ v q. put_reason v x (bit_or (reason_in v x) q)) (set-domain n st.most w long s.list s.why z.masks x m lx)
-          (ap (cause_of universal x k) (holding_reason n st.most w long s.list s.why k lk) ∙ cause_of_lem P n universal near index rows st s.why x k lk)
+          (ap (cause_of A.universal x k) (holding_reason n st.most w long s.list s.why k lk) ∙ cause_of_lem P n A st s.why x k lk)
           ∙ ap (λ q. put_reason (holding n w (set s.list x m) s.why) x (bit_or q c)) (holding_reason n st.most w long (set s.list x m) s.why x lx)
           ∙ set_reason n st.most w long (set s.list x m) s.why z.reasons x (bit_or (get_or s.why x 0) c) lx
 
-      revise_holds : T (not (P.universal x)) → T (constrained x k) → revise_in index rows universal x k (put s) ≡ put (revise P x k s)
+      revise_holds : T (not (P.universal x)) → T (constrained x k) → revise_in A x k (put s) ≡ put (revise P x k s)
       unfolding revise_in
       revise_holds u c =
-          ap₂ (λ m v. cond (eqb m v) (put s) (lessened x m (cause_of universal x k (reason_in (put s) k)) (put s))) mask_left (domain_at_lem x lx)
+          ap₂ (λ m v. cond (eqb m v) (put s) (lessened x m (cause_of A.universal x k (reason_in (put s) k)) (put s))) mask_left (domain_at_lem x lx)
           ∙ go (eqb (surviving P s.list x k) (get_or s.list x 0)) refl (revise P x k s) (revise_cases P x k s)
         where
           go : (b : Bool) → eqb (surviving P s.list x k) (get_or s.list x 0) ≡ b → (r : Sheet) → Revised P x k s r
-              → cond b (put s) (lessened x (surviving P s.list x k) (cause_of universal x k (reason_in (put s) k)) (put s)) ≡ put r
+              → cond b (put s) (lessened x (surviving P s.list x k) (cause_of A.universal x k (reason_in (put s) k)) (put s)) ≡ put r
           go true e r (kept h) = refl
           go true e r (cut _ _ d) = absurd (d (eqb-true (surviving P s.list x k) (get_or s.list x 0) e))
           go false e r (kept h) = absurd (clash e (true_holds (eq-eqb (surviving P s.list x k) (get_or s.list x 0) (h u c))))
@@ -86,20 +87,20 @@ module _ (P : Problem) (universal : ℕ) (near index rows : List ℕ) (st : Stat
   module _ (s : Sheet) (z : Sized P s) (all dirty x : ℕ) (lx : x < n) (ready : Ready P all dirty x s) where
     -- The neighbours to look at.
     abbrev look : ℕ
-    look = bit_and (get_or near x 0) (bit_or dirty all)
+    look = bit_and (get_or A.near x 0) (bit_or dirty all)
 
     look-bit : (k : ℕ) → k < n → bit look k ≡ (constrained x k && (bit dirty k || bit all k))
-    look-bit k lk = bit-bit_and (get_or near x 0) (bit_or dirty all) k ∙ rw (bit-bit_or dirty all k, st.joined x k lx lk)
+    look-bit k lk = bit-bit_and (get_or A.near x 0) (bit_or dirty all) k ∙ rw (bit-bit_or dirty all k, st.joined x k lx lk)
 
     look_inside : (k : ℕ) → n ≤ k → bit look k ≡ false
-    look_inside k l = bit-bit_and (get_or near x 0) (bit_or dirty all) k ∙ rw (st.inside x k lx l, bit_of_zero k)
+    look_inside k l = bit-bit_and (get_or A.near x 0) (bit_or dirty all) k ∙ rw (st.inside x k lx l, bit_of_zero k)
 
-    look_holds : look_from near index rows universal (bit_or dirty all) x (put s) ≡ put (looks P x s)
+    look_holds : look_from A (bit_or dirty all) x (put s) ≡ put (looks P x s)
     unfolding look_from
-    look_holds = go (bit universal x) (st.side x lx)
+    look_holds = go (bit A.universal x) (st.side x lx)
       where
         f : ℕ → List ℕ → List ℕ
-        f k = revise_in index rows universal x k
+        f k = revise_in A x k
 
         go : (b : Bool) → P.universal x ≡ b → cond b (put s) (over look 32 f (put s)) ≡ put (looks P x s)
         go true u = ap put (sym (looks-universal P x lx u s))
@@ -115,7 +116,7 @@ module _ (P : Problem) (universal : ℕ) (near index rows : List ℕ) (st : Stat
     pub sized : Sized P s
     pub ready : Ready P all p.dirty x s
 
-  look_agrees : (all x : ℕ) (p : Progress) (s : Sheet) → x < n → Agrees all x p s → Agrees all (suc x) (progress near index rows universal all x p) (looks P x s)
+  look_agrees : (all x : ℕ) (p : Progress) (s : Sheet) → x < n → Agrees all x p s → Agrees all (suc x) (progress A all x p) (looks P x s)
   unfolding progress lost_at
   look_agrees all x p s lx a = record {
     held = now;
@@ -124,10 +125,10 @@ module _ (P : Problem) (universal : ℕ) (near index rows : List ℕ) (st : Stat
   }
     where
       r : List ℕ
-      r = look_from near index rows universal (bit_or p.dirty all) x p.words
+      r = look_from A (bit_or p.dirty all) x p.words
 
       now : r ≡ put (looks P x s)
-      now = ap (look_from near index rows universal (bit_or p.dirty all) x) a.held ∙ look_holds s a.sized all p.dirty x lx a.ready
+      now = ap (look_from A (bit_or p.dirty all) x) a.held ∙ look_holds s a.sized all p.dirty x lx a.ready
 
       lost : get_or (looks P x s).list x 0 < get_or s.list x 0 → lost_at x p.words r ≡ true
       lost l = ap₂ (λ u v. not (eqb u v)) (ap (λ v. get_or v x 0) now ∙ domain_at_lem (looks P x s) (looks_sized P x lx s a.sized) x lx) (ap (λ v. get_or v x 0) a.held ∙ domain_at_lem s a.sized x lx)
@@ -137,22 +138,22 @@ module _ (P : Problem) (universal : ℕ) (near index rows : List ℕ) (st : Stat
       told (inl e) = inl e
       told (inr l) = inr (rw (lost l) (noted_on p.dirty x))
 
-  pass_agrees : (all : ℕ) (p : Progress) (s : Sheet) → Agrees all 0 p s → Agrees 0 0 (pass_in near index rows universal n all p) (pass P s)
+  pass_agrees : (all : ℕ) (p : Progress) (s : Sheet) → Agrees all 0 p s → Agrees 0 0 (pass_in A n all p) (pass P s)
   unfolding pass_in pass
-  pass_agrees all p s a = next (loop_beside n (λ x. progress near index rows universal all x) (looks P) (Agrees all) (λ x p s l a. look_agrees all x p s l a) n 0 (omega arith) p s a)
+  pass_agrees all p s a = next (loop_beside n (λ x. progress A all x) (looks P) (Agrees all) (λ x p s l a. look_agrees all x p s l a) n 0 (omega arith) p s a)
     where
       next : {p : Progress} {s : Sheet} → Agrees all n p s → Agrees 0 0 p s
       next {p = p} {s = s} a = record { held = a.held; sized = a.sized; ready = ready_next P all p.dirty s a.ready }
 
   -- Passes until nothing waits are as many passes as one likes.
-  passes_hold : (v all : ℕ) (p : Progress) (s : Sheet) → (p.dirty ≡ 0 → all ≡ 0) → Agrees all 0 p s → (passes_in near index rows universal n v all p).words ≡ put (loop v 0 (λ _. pass P) s)
+  passes_hold : (v all : ℕ) (p : Progress) (s : Sheet) → (p.dirty ≡ 0 → all ≡ 0) → Agrees all 0 p s → (passes_in A n v all p).words ≡ put (loop v 0 (λ _. pass P) s)
   unfolding passes_in loop
   passes_hold zero all p s q a = a.held
   passes_hold (suc v) all p s q a =
-      go (eqb p.dirty 0) refl (passes_hold v 0 (pass_in near index rows universal n all p) (pass P s) (λ _. refl) (pass_agrees all p s a) ∙ ap put (loop-from (pass P) v 0 1 (pass P s)))
+      go (eqb p.dirty 0) refl (passes_hold v 0 (pass_in A n all p) (pass P s) (λ _. refl) (pass_agrees all p s a) ∙ ap put (loop-from (pass P) v 0 1 (pass P s)))
     where
-      go : (b : Bool) → eqb p.dirty 0 ≡ b → (passes_in near index rows universal n v 0 (pass_in near index rows universal n all p)).words ≡ put (loop v 1 (λ _. pass P) (pass P s))
-          → (cond b p (passes_in near index rows universal n v 0 (pass_in near index rows universal n all p))).words ≡ put (loop v 1 (λ _. pass P) (pass P s))
+      go : (b : Bool) → eqb p.dirty 0 ≡ b → (passes_in A n v 0 (pass_in A n all p)).words ≡ put (loop v 1 (λ _. pass P) (pass P s))
+          → (cond b p (passes_in A n v 0 (pass_in A n all p))).words ≡ put (loop v 1 (λ _. pass P) (pass P s))
       go true e h =
           let z = eqb-true p.dirty 0 e in
           a.held ∙ ap put (sym (ready_none P (suc v) 0 s (subst (λ d. Ready P 0 d 0 s) z (subst (λ b. Ready P b p.dirty 0 s) (q z) a.ready))))
@@ -167,10 +168,10 @@ sheet_sized P w small = record {
 }
 
 -- On the words of a turn the code's removals are those of the definition, where nothing dies because of a variable outside the mask changed.
-module _ (P : Problem) (universal : ℕ) (near index rows : List ℕ) (w : List ℕ) (long : 96 ≤ length w) (small : (k : ℕ) → get_or w k 0 < 65536) (changed : ℕ) where
+module _ (P : Problem) (A : Arrays) (w : List ℕ) (long : 96 ≤ length w) (small : (k : ℕ) → get_or w k 0 < 65536) (changed : ℕ) where
   abbrev Goal : ℕ → Type 0
-  Goal n = States P n universal near index rows → ((x k : ℕ) → x < n → k < n → bit changed k ≡ false → T (bit (get_or near x 0) k) → Rests index rows universal w x k)
-      → removed_in near index rows universal n changed w ≡ holding_sheet n w (revisions P (sheet_in n w))
+  Goal n = States P n A → ((x k : ℕ) → x < n → k < n → bit changed k ≡ false → T (bit (get_or A.near x 0) k) → Rests A w x k)
+      → removed_in A n changed w ≡ holding_sheet n w (revisions P (sheet_in n w))
 
   formed : Sized P (sheet_in P.n w) → Formed P (sheet_in P.n w)
   formed z = record { masks = record { size = z.masks; small = z.small }; sized = z.reasons }
@@ -178,8 +179,8 @@ module _ (P : Problem) (universal : ℕ) (near index rows : List ℕ) (w : List 
   own : Goal P.n
   unfolding removed_in
   own st rests =
-      ap (λ v. (passes_in near index rows universal n (16 * n) changed (record { dirty = changed; words = v })).words) (sym held)
-      ∙ passes_hold P universal near index rows st w long (16 * n) changed (record { dirty = changed; words = put P universal near index rows st w long s }) s (λ e. e)
+      ap (λ v. (passes_in A n (16 * n) changed (record { dirty = changed; words = v })).words) (sym held)
+      ∙ passes_hold P A st w long (16 * n) changed (record { dirty = changed; words = put P A st w long s }) s (λ e. e)
       (record { held = refl; sized = z; ready = ready_first P changed changed s still })
       ∙ ap (holding_sheet n w) (sym (revisions-loop P s (formed z)))
     where
@@ -197,9 +198,9 @@ module _ (P : Problem) (universal : ℕ) (near index rows : List ℕ) (w : List 
 
       still : (x k : ℕ) → x < n → k < n → bit changed k ≡ false → Still P s.list x k
       still x k lx lk f u c =
-          surviving-leaves P n universal near index rows st (list_in n w) x k lx lk (z.small x)
-          ∙ ap₂ (λ u v. bit_and u (leaves index rows universal x k v)) (get_d_list_in n w x lx) (get_d_list_in n w k lk)
-          ∙ rests x k lx lk f (rw (st.joined x k lx lk) at c) (fails {b = bit universal x} λ t. clash (ap not (st.side x lx ∙ holds {b = bit universal x} t)) u) ∙ sym (get_d_list_in n w x lx)
+          surviving-leaves P n A st (list_in n w) x k lx lk (z.small x)
+          ∙ ap₂ (λ u v. bit_and u (leaves A x k v)) (get_d_list_in n w x lx) (get_d_list_in n w k lk)
+          ∙ rests x k lx lk f (rw (st.joined x k lx lk) at c) (fails {b = bit A.universal x} λ t. clash (ap not (st.side x lx ∙ holds {b = bit A.universal x} t)) u) ∙ sym (get_d_list_in n w x lx)
 
   pub removals : (n : ℕ) → Goal n
   removals n st rests = subst Goal st.size own st rests

@@ -7,6 +7,7 @@ use Rattle.game.specs.Reasons.{loop}
 use Rattle.solver_arrays.specs.Arrays.{supported_in, common_in}
 use Rattle.solver_arrays.specs.Words.{reason_in, put_reason}
 use Rattle.rule_arc_passes.specs.Over.{over}
+use Rattle.solver_arrays.specs.declared.arrays.Arrays.{Arrays}
 
 -- What the reason of x takes in with a removal because of k, whose reason is r.
 unfoldable pub cause_of : ℕ → ℕ → ℕ → ℕ → ℕ
@@ -16,22 +17,22 @@ cause_of universal x k r = cond (bit universal k && ltb x k) (bit_or r (2 ^ x)) 
 unfoldable pub lessened : ℕ → ℕ → ℕ → List ℕ → List ℕ
 lessened x m c w = put_reason (set w x m) x (bit_or (reason_in (set w x m) x) c)
 
-module _ (index rows : List ℕ) (universal : ℕ) where
+module _ (A : Arrays) where
   -- The values of x that the mask m of k leaves: those that go with each of its values where k is universal and later, else those that go with
   -- some.
   unfoldable pub leaves : ℕ → ℕ → ℕ → ℕ
-  leaves x k m = cond (bit universal k && ltb x k) (common_in index rows k m x) (supported_in index rows k m x)
+  leaves x k m = cond (bit A.universal k && ltb x k) (common_in A k m x) (supported_in A k m x)
 
   -- The revision of x by k.
   unfoldable pub revise_in : ℕ → ℕ → List ℕ → List ℕ
   revise_in x k w =
       let m = bit_and (get_or w x 0) (leaves x k (get_or w k 0)) in
-      let r = lessened x m (cause_of universal x k (reason_in w k)) w in
+      let r = lessened x m (cause_of A.universal x k (reason_in w k)) w in
       cond (eqb m (get_or w x 0)) w r
 
   -- No value of an existential x dies because of k.
   abbrev pub Rests : List ℕ → ℕ → ℕ → Type 0
-  Rests w x k = bit universal x ≡ false → bit_and (get_or w x 0) (leaves x k (get_or w k 0)) ≡ get_or w x 0
+  Rests w x k = bit A.universal x ≡ false → bit_and (get_or w x 0) (leaves x k (get_or w k 0)) ≡ get_or w x 0
 
 -- Whether x has lost values, and the mask of variables that tells it.
 unfoldable pub lost_at : ℕ → List ℕ → List ℕ → Bool
@@ -45,12 +46,12 @@ pub record Progress : Type 0 where
   pub dirty : ℕ
   pub words : List ℕ
 
-module _ (near index rows : List ℕ) (universal : ℕ) where
+module _ (A : Arrays) where
   -- One look of x at its neighbours in the mask waiting: its revisions by them.
   unfoldable pub look_from : ℕ → ℕ → List ℕ → List ℕ
   look_from waiting x w =
-      let r = over (bit_and (get_or near x 0) waiting) 32 (λ k. revise_in index rows universal x k) w in
-      cond (bit universal x) w r
+      let r = over (bit_and (get_or A.near x 0) waiting) 32 (λ k. revise_in A x k) w in
+      cond (bit A.universal x) w r
 
   -- One look of a pass, in which each variable looks at those of the mask all besides.
   unfoldable pub progress : ℕ → ℕ → Progress → Progress

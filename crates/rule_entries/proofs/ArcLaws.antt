@@ -2,9 +2,9 @@
 use mathlib.Core.Path.{◌≡◌, sym, ap, subst, ◌∙◌}
 use mathlib.Core.Bool.{Bool}
 use mathlib.Core.List.{List}
-use Prim.Native.Nat.{ℕ, ◌≤◌}
+use Prim.Native.Nat.{ℕ}
 use lib.Dec.{T}
-use lib.ListN.{length, replicate}
+use lib.ListN.{length}
 use Rattle.game.specs.Problem.{Problem}
 use Rattle.game.specs.Lists.{domains, may_lend}
 use Rattle.game.specs.Arc.{arc, arc_loss}
@@ -16,8 +16,9 @@ use Rattle.solver_arrays.specs.Arrays.{States}
 use Rattle.solver_arrays.specs.Words.{list_in, why_in}
 use Rattle.solver_arrays.proofs.WordLaws.{length-why_in, list_in-holding}
 use Rattle.rule_arc.specs.ArcRule.{Arced}
-use Rattle.rule_lend.specs.Lend.{copied}
-use Rattle.rule_lend.proofs.LendLaws.{words_hold}
+use Rattle.rule_lend.specs.Lend.{words_for}
+use Rattle.rule_lend.proofs.LendLaws.{words_hold, words_long}
+use Rattle.solver_arrays.specs.declared.arrays.Arrays.{Arrays}
 
 module _ (P : Problem) (l R : List ℕ) (t : T (may_lend P l)) (e : length R ≡ P.n) where
   explained-list : (explain_arc P l R).list ≡ (arc P l).list
@@ -33,25 +34,17 @@ module _ (P : Problem) (l R : List ℕ) (t : T (may_lend P l)) (e : length R ≡
   unfolding explain_arc arc
   explained-loss = ap (λ (m : List ℕ). arc_loss P (domains m)) explained-list
 
-module _ (P : Problem) (n u : ℕ) (near index rows : List ℕ) (st : States P n u near index rows) where
-  -- Rule 1 on words, without the reasons.
-  pub arc-words : (w w' : List ℕ) (lost : Bool) (c : ℕ) → 96 ≤ length w → Arced P n w w' lost c → T (may_lend P (list_in n w))
-      → (lost ≡ (arc P (list_in n w)).loss) × (list_in n w' ≡ (arc P (list_in n w)).list)
-  arc-words w w' lost c long a t =
-      let e = length-why_in n w ∙ sym st.size in
-      let q = explained-list P (list_in n w) (why_in n w) t e in (
-        a.loss ∙ explained-loss P (list_in n w) (why_in n w) t e,
-        ap (list_in n) a.words
-            ∙ list_in-holding n st.most w long _ _ (ap length q ∙ (arc_masks P (list_in n w) (lent_out P (list_in n w) t).masks).size ∙ st.size)
-            ∙ q,
-      )
-
-  pub arc_ends : (l w w' l' : List ℕ) (r : Bool) → w ≡ copied l (replicate 128 0) n → length l ≡ n
-      → (T (may_lend P (list_in n w)) → (r ≡ (arc P (list_in n w)).loss) × (list_in n w' ≡ (arc P (list_in n w)).list)) → l' ≡ list_in n w'
-      → T (may_lend P l) → (r ≡ (arc P l).loss) × (l' ≡ (arc P l).list)
-  arc_ends l w w' l' r e h f b t =
-      let s = words_hold n l w e h st.most in
-      let o = f (subst (λ (m : List ℕ). T (may_lend P m)) (sym s) t) in (
-        o.0 ∙ ap (λ (m : List ℕ). (arc P m).loss) s,
-        b ∙ o.1 ∙ ap (λ (m : List ℕ). (arc P m).list) s,
+module _ (P : Problem) (n : ℕ) (A : Arrays) (st : States P n A) where
+  -- Rule 1 on the words of a list l, which afterwards is l'.
+  pub arc_ends : (l w w' l' : List ℕ) (lost : Bool) (c : ℕ) → w ≡ words_for l → length l ≡ n → Arced P n w w' lost c → l' ≡ list_in n w'
+      → T (may_lend P l) → (lost ≡ (arc P l).loss) × (l' ≡ (arc P l).list)
+  arc_ends l w w' l' lost c e h a b t =
+      let s = words_hold n l w e h in
+      let z : length (why_in n w) ≡ P.n = length-why_in n w ∙ sym st.size in
+      let m : T (may_lend P (list_in n w)) = subst (λ (m : List ℕ). T (may_lend P m)) (sym s) t in
+      let q = explained-list P (list_in n w) (why_in n w) m z in (
+        a.loss ∙ explained-loss P (list_in n w) (why_in n w) m z ∙ ap (λ (m : List ℕ). (arc P m).loss) s,
+        b ∙ ap (list_in n) a.words
+            ∙ list_in-holding n st.most w (words_long n l w e h st.most) _ _ (ap length q ∙ (arc_masks P (list_in n w) (lent_out P (list_in n w) m).masks).size ∙ st.size)
+            ∙ q ∙ ap (λ (m : List ℕ). (arc P m).list) s,
       )

@@ -1,7 +1,5 @@
 -- Laws of the rules called alone.
 
--- A loss and a mask told.
-pub mod ReplyLaws
 -- Rules 2 and 3 on the words that a list is copied into.
 pub mod CheckLaws
 -- Rule 1 on these words.

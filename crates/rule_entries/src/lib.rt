@@ -13,116 +13,53 @@ use arc_alone::arc_in;
 use file_decoder::decode;
 use forward_alone::{ahead_in, forward_in};
 use narrow_alone::{interchangeable_in, pure_in};
-use solver_arrays::ROWS;
+use refusal::Refusal;
+pub use rule_forward::Ahead;
 
-// What rule 1 replies: no loss, a loss; refused by number; the file's refusal with its place.
-#[derive(Clone, Copy)]
-pub enum Ruled {
-    Stands,
-    Lost,
-    Refused(u8),
-    RefusedAt(u8, usize),
-}
-
-// What rule 2 replies: no loss; a loss, with the lowest later variable that is emptied or holds a clash; or a refusal.
-#[derive(Clone, Copy)]
-pub enum Check {
-    Stands,
-    Lost(usize),
-    Refused(u8),
-    RefusedAt(u8, usize),
-}
-
-// What rule 3 replies: no loss; a loss, with the smallest value whose check loses and the variable that this check names; or a refusal.
-#[derive(Clone, Copy)]
-pub enum Look {
-    Stands,
-    Lost(usize, usize),
-    Refused(u8),
-    RefusedAt(u8, usize),
-}
-
-// What rules 4 and 5 reply: a mask of values, or a refusal.
-#[derive(Clone, Copy)]
-pub enum Values {
-    Mask(u16),
-    Refused(u8),
-    RefusedAt(u8, usize),
-}
-
-// Rule 1. The list is left without dead values, also in a loss.
-pub fn arc(f: &[u8], list: &mut [u16]) -> Ruled
+// Rule 1: whether it is a loss. The list is left without dead values, also in a loss.
+pub fn arc(f: &[u8], list: &mut [u16]) -> Result<bool, Refusal>
     ensures result_value { told result ≡ arc_told f.now list.old }
     ensures list_after { list.new ≡ arc_left f.now list.old }
 {
-    let mut near = [0u32; 32];
-    let mut index = [0u16; 1024];
-    let mut rows = [0u16; ROWS];
-    let d = decode(f, &mut near, &mut index, &mut rows);
-    if d.refused {
-        return Ruled::RefusedAt(d.number, d.place);
-    }
-    let v = d.variables;
-    arc_in(&near, &index, &rows, v, list)
+    let arrays = decode(f)?;
+    Ok(arc_in(&arrays, list)?)
 }
 
-// Rule 2, for value a of variable x. The list is left as checked, also in a loss.
-pub fn forward_check(f: &[u8], list: &mut [u16], x: usize, a: usize) -> Check
+// Rule 2, for value a of variable x: none where it is no loss, else the lowest later variable that is emptied or holds a clash. The
+// list is left as checked, also in a loss.
+pub fn forward_check(
+    f: &[u8],
+    list: &mut [u16],
+    x: usize,
+    a: usize,
+) -> Result<Option<usize>, Refusal>
     ensures result_value { told_check result ≡ forward_told f.now list.old x a }
     ensures list_after { list.new ≡ forward_left f.now list.old x a }
 {
-    let mut near = [0u32; 32];
-    let mut index = [0u16; 1024];
-    let mut rows = [0u16; ROWS];
-    let d = decode(f, &mut near, &mut index, &mut rows);
-    if d.refused {
-        return Check::RefusedAt(d.number, d.place);
-    }
-    let v = d.variables;
-    forward_in(&near, &index, &rows, v, list, x, a)
+    let arrays = decode(f)?;
+    Ok(forward_in(&arrays, list, x, a)?)
 }
 
-// Rule 3, at variable x.
-pub fn look_ahead(f: &[u8], list: &[u16], x: usize) -> Look
+// Rule 3, at variable x: none where it is no loss, else the smallest value whose check loses and the variable that this check names.
+pub fn look_ahead(f: &[u8], list: &[u16], x: usize) -> Result<Option<Ahead>, Refusal>
     ensures { told_look result ≡ ahead_told f.now list.now x }
 {
-    let mut near = [0u32; 32];
-    let mut index = [0u16; 1024];
-    let mut rows = [0u16; ROWS];
-    let d = decode(f, &mut near, &mut index, &mut rows);
-    if d.refused {
-        return Look::RefusedAt(d.number, d.place);
-    }
-    let v = d.variables;
-    ahead_in(&near, &index, &rows, v, list, x)
+    let arrays = decode(f)?;
+    Ok(ahead_in(&arrays, list, x)?)
 }
 
 // Rule 4: the pure values of variable x.
-pub fn pure(f: &[u8], list: &[u16], x: usize) -> Values
+pub fn pure(f: &[u8], list: &[u16], x: usize) -> Result<u16, Refusal>
     ensures { told_values result ≡ pure_told f.now list.now x }
 {
-    let mut near = [0u32; 32];
-    let mut index = [0u16; 1024];
-    let mut rows = [0u16; ROWS];
-    let d = decode(f, &mut near, &mut index, &mut rows);
-    if d.refused {
-        return Values::RefusedAt(d.number, d.place);
-    }
-    let v = d.variables;
-    pure_in(&near, &index, &rows, v, list, x)
+    let arrays = decode(f)?;
+    Ok(pure_in(&arrays, list, x)?)
 }
 
 // Rule 5: the smallest of each group of interchangeable values of variable x.
-pub fn interchangeable(f: &[u8], list: &[u16], x: usize) -> Values
+pub fn interchangeable(f: &[u8], list: &[u16], x: usize) -> Result<u16, Refusal>
     ensures { told_values result ≡ interchangeable_told f.now list.now x }
 {
-    let mut near = [0u32; 32];
-    let mut index = [0u16; 1024];
-    let mut rows = [0u16; ROWS];
-    let d = decode(f, &mut near, &mut index, &mut rows);
-    if d.refused {
-        return Values::RefusedAt(d.number, d.place);
-    }
-    let v = d.variables;
-    interchangeable_in(&near, &index, &rows, v, list, x)
+    let arrays = decode(f)?;
+    Ok(interchangeable_in(&arrays, list, x)?)
 }

@@ -1,73 +1,25 @@
 // Rules 4 and 5 over the arrays of a problem and a lent list.
-ghost use Rattle.std.specs.Prelude.{◌≡◌, ◌≤◌, ◌<◌, length};
-ghost use Rattle.solver_arrays.specs.Arrays.{InRange};
-ghost use Rattle.rule_entries.specs.Inner.{PureOn, InterchangeableOn, PureIn, InterchangeableIn};
+ghost use Rattle.rule_entries.specs.Inner.{PureIn, InterchangeableIn};
 
-use crate::Values;
-use refusal::Verdict;
+use refusal::Reason;
 use rule_lend::{variable_test, words_of};
 use rule_narrow::{interchangeable_values, pure_values};
-use solver_arrays::{Index, Near, Rows, Variables};
+use solver_arrays::Arrays;
 
-fn pure_on(near: &Near, index: &Index, rows: &Rows, n: usize, list: &[u16], x: usize) -> u16
-    requires { (x < n) × (n ≤ 32) × (length list.now ≡ n) × InRange index.now }
-    ensures { PureOn n near.now index.now rows.now list.now x result }
+// Rule 4. Rule 5 has the same lines: one function over both would ask for what each rule requires, and be no plainer.
+pub fn pure_in(arrays: &Arrays, list: &[u16], x: usize) -> Result<u16, Reason>
+    ensures { PureIn arrays.now list.now x result }
 {
-    let w = words_of(n, list);
-    pure_values(near, index, rows, n, x, &w)
+    variable_test(arrays.n, &arrays.domains, list, x)?;
+    let w = words_of(arrays.n, list);
+    Ok(pure_values(arrays, x, &w))
 }
 
-fn interchangeable_on(
-    near: &Near,
-    index: &Index,
-    rows: &Rows,
-    n: usize,
-    list: &[u16],
-    x: usize,
-) -> u16
-    requires { (x < n) × (n ≤ 32) × (length list.now ≡ n) × InRange index.now }
-    ensures { InterchangeableOn n near.now index.now rows.now list.now x result }
+// Rule 5.
+pub fn interchangeable_in(arrays: &Arrays, list: &[u16], x: usize) -> Result<u16, Reason>
+    ensures { InterchangeableIn arrays.now list.now x result }
 {
-    let w = words_of(n, list);
-    interchangeable_values(near, index, rows, n, x, &w)
-}
-
-pub fn pure_in(
-    near: &Near,
-    index: &Index,
-    rows: &Rows,
-    v: Variables,
-    list: &[u16],
-    x: usize,
-) -> Values
-    requires { (v.n ≤ 32) × InRange index.now }
-    ensures { PureIn v near.now index.now rows.now
-        list.now x result }
-{
-    let d = v.domains;
-    let t = variable_test(v.n, &d, list, x);
-    match t {
-        Verdict::Refused(number, _) => Values::Refused(number),
-        Verdict::Fine => Values::Mask(pure_on(near, index, rows, v.n, list, x)),
-    }
-}
-
-pub fn interchangeable_in(
-    near: &Near,
-    index: &Index,
-    rows: &Rows,
-    v: Variables,
-    list: &[u16],
-    x: usize,
-) -> Values
-    requires { (v.n ≤ 32) × InRange index.now }
-    ensures { InterchangeableIn v near.now index.now rows.now
-        list.now x result }
-{
-    let d = v.domains;
-    let t = variable_test(v.n, &d, list, x);
-    match t {
-        Verdict::Refused(number, _) => Values::Refused(number),
-        Verdict::Fine => Values::Mask(interchangeable_on(near, index, rows, v.n, list, x)),
-    }
+    variable_test(arrays.n, &arrays.domains, list, x)?;
+    let w = words_of(arrays.n, list);
+    Ok(interchangeable_values(arrays, x, &w))
 }

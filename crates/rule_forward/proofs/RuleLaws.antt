@@ -1,5 +1,5 @@
 -- The steps of the check against rules 2 and 3, for a problem that the arrays state.
-use mathlib.Core.Path.{◌≡◌, refl, sym, ap, ap₂, ◌∙◌}
+use mathlib.Core.Path.{◌≡◌, refl, sym, ap, ap₂, subst, ◌∙◌}
 use mathlib.Core.Bool.{Bool, true, false, cond, not, ◌&&◌, ◌||◌, and-false, and_comm}
 use mathlib.Core.List.{List}
 use Prim.Native.Nat.{ℕ, ◌+◌, ◌*◌, ◌^◌, ◌≤◌, ◌<◌}
@@ -10,12 +10,15 @@ use lib.ListN.{get_or, length, set}
 use lib.Seq.{get_or-set_same, get_or-set_other}
 use lib.Pow.{pow-lt, pow_mono}
 use borrow.Author.Tests.{eq-eqb, ne_eqb, lt-ltb, le-ltb, ltb-true}
+use Rattle.std.specs.Prelude.{Option}
 use Rattle.mask.specs.Range.{some, each, first}
+use Rattle.mask.specs.Found.{found}
+use Rattle.rule_forward.specs.declared.steps.Ahead.{Ahead}
 use Rattle.mask.specs.Mask.{bit, mask_of}
 use Rattle.mask.proofs.Logic.{same, holds, true_holds, fails, clash, test, by_eq, by_lt, and_out}
 use Rattle.mask.proofs.Range.{some_out, some_in, each_out, each_in, first-agree, first_none, first_some}
 use Rattle.mask.proofs.Bits.{bit-bit_and, bit-bit_or, bit_single, bit_ext, bit_of_zero, bit_high}
-use Rattle.mask.proofs.Masks.{mask_of_lt, bit-mask_of, mask_of_bits, mask_of_same, empty-some, within-each}
+use Rattle.mask.proofs.Masks.{mask_of_lt, bit-mask_of, mask_of_bits, mask_of_same, or_assoc, empty-some, within-each}
 use Rattle.game.specs.Problem.{Problem}
 use Rattle.game.specs.Game.{Domains}
 use Rattle.game.specs.Lists.{domains, list_of, masks_of}
@@ -27,9 +30,10 @@ use Rattle.theory.proofs.Lists.{get_d_list_of, list_of_same}
 use Rattle.solver_arrays.specs.Arrays.{row_in, States}
 use Rattle.solver_arrays.specs.Words.{list_in, why_in, reason_in, holding}
 use Rattle.solver_arrays.proofs.WordLaws.{length-list_in, get_d_list_in, get_d_why_in, holding_reason, holding-own, holding_again, set-domain, reason_set}
-use Rattle.rule_forward.specs.OneValue.{later_of, left_of, fails_at, reason_of, mask_at, why_at, failing, checked_words, first_failing, losing, first_losing, losing_at}
+use Rattle.rule_forward.specs.OneValue.{later_of, left_of, fails_at, reason_of, mask_at, why_at, failing, checked_words, first_failing, losing, first_losing, losing_at, ahead}
 use Rattle.rule_forward.specs.Replies.{after_forward, ahead_value, ahead_variable, conflict_in}
 use Rattle.rule_forward.proofs.StepLaws.{bit_later}
+use Rattle.solver_arrays.specs.declared.arrays.Arrays.{Arrays}
 
 some_same : (v : ℕ) (d e f g : ℕ → Bool) → ((k : ℕ) → k < v → d k ≡ e k) → ((k : ℕ) → k < v → f k ≡ g k) → some v d f ≡ some v e g
 some_same v d e f g p q = same (some v d f) (some v e g)
@@ -51,20 +55,20 @@ empty_mask P D j = sym (empty-some 16 (mask_of 16 (D j)) (mask_of_lt 16 (D j))
 pub one_value : (a : ℕ) → a < 16 → mask_of 16 (λ b. eqb b a) ≡ 2 ^ a
 one_value a h = bit_ext 16 (mask_of 16 (λ b. eqb b a)) (2 ^ a) (mask_of_lt 16 (λ b. eqb b a)) (pow-lt h) λ k l. bit-mask_of 16 (λ b. eqb b a) k l ∙ sym (bit_single a k)
 
-module _ (P : Problem) (n universal : ℕ) (near index rows : List ℕ) (st : States P n universal near index rows)
+module _ (P : Problem) (n : ℕ) (A : Arrays) (st : States P n A)
     (x a : ℕ) (hx : x < n) (ha : a < 16) (w : List ℕ) (small : (k : ℕ) → get_or w k 0 < 65536) where
   abbrev D : Domains
   D = domains (list_in n w)
 
   abbrev reach : ℕ
-  reach = later_of (get_or near x 0) x n
+  reach = later_of (get_or A.near x 0) x n
 
   domain_is : (j : ℕ) → j < n → (b : ℕ) → D j b ≡ bit (get_or w j 0) b
   unfolding domains
   domain_is j h b = ap (λ (m : ℕ). bit m b) (get_d_list_in n w j h)
 
-  reached : (j : ℕ) → j < n → bit reach j ≡ (bit (get_or near x 0) j && ltb x j)
-  reached j h = bit_later (get_or near x 0) x n st.most j ∙ rw (lt-ltb j n h) (go (bit (get_or near x 0) j) (ltb x j))
+  reached : (j : ℕ) → j < n → bit reach j ≡ (bit (get_or A.near x 0) j && ltb x j)
+  reached j h = bit_later (get_or A.near x 0) x n st.most j ∙ rw (lt-ltb j n h) (go (bit (get_or A.near x 0) j) (ltb x j))
     where
       go : (c d : Bool) → (c && (d && true)) ≡ (c && d)
       go true true = refl
@@ -73,7 +77,7 @@ module _ (P : Problem) (n universal : ℕ) (near index rows : List ℕ) (st : St
 
   module _ (j : ℕ) (h : j < n) where
     -- A variable that no constraint joins with x goes with everything.
-    goes : bit (get_or near x 0) j ≡ false → (b : ℕ) → T (P.compatible x a j b)
+    goes : bit (get_or A.near x 0) j ≡ false → (b : ℕ) → T (P.compatible x a j b)
     goes e b = P.free x j (st.joined x j hx h ∙ e) a b
 
     -- The mask that rule 2 leaves at j.
@@ -81,11 +85,11 @@ module _ (P : Problem) (n universal : ℕ) (near index rows : List ℕ) (st : St
     unfolding forward_domains
     mask_own e = mask_of_same 16 _ (λ b. eqb b a) (λ b l. rw (eq-eqb j x e)) ∙ one_value a ha
 
-    pub mask_stays : ¬ (j ≡ x) → (ltb x j && not (bit universal j)) ≡ false → mask_of 16 (forward_domains P D x a j) ≡ get_or w j 0
+    pub mask_stays : ¬ (j ≡ x) → (ltb x j && not (bit A.universal j)) ≡ false → mask_of 16 (forward_domains P D x a j) ≡ get_or w j 0
     unfolding forward_domains
     mask_stays e f = mask_of_same 16 _ (bit (get_or w j 0)) (λ b l. rw (ne_eqb j x e, st.side j h, f) (domain_is j h b)) ∙ sym (mask_of_bits 16 (get_or w j 0) (small j))
 
-    mask_free : ¬ (j ≡ x) → bit (get_or near x 0) j ≡ false → mask_of 16 (forward_domains P D x a j) ≡ get_or w j 0
+    mask_free : ¬ (j ≡ x) → bit (get_or A.near x 0) j ≡ false → mask_of 16 (forward_domains P D x a j) ≡ get_or w j 0
     unfolding forward_domains
     mask_free e f = mask_of_same 16 _ (bit (get_or w j 0)) (λ b l. rw (ne_eqb j x e, holds {b = P.compatible x a j b} (goes f b)) (go (ltb x j && not (P.universal j)) (D j b) ∙ domain_is j h b)) ∙ sym (mask_of_bits 16 (get_or w j 0) (small j))
       where
@@ -93,72 +97,72 @@ module _ (P : Problem) (n universal : ℕ) (near index rows : List ℕ) (st : St
         go true d = refl
         go false d = refl
 
-    mask_met : x < j → bit universal j ≡ false → mask_of 16 (forward_domains P D x a j) ≡ bit_and (get_or w j 0) (row_in index rows x a j)
+    mask_met : x < j → bit A.universal j ≡ false → mask_of 16 (forward_domains P D x a j) ≡ bit_and (get_or w j 0) (row_in A x a j)
     unfolding forward_domains
     mask_met l f =
-        mask_of_same 16 _ (λ b. bit (bit_and (get_or w j 0) (row_in index rows x a j)) b)
+        mask_of_same 16 _ (λ b. bit (bit_and (get_or w j 0) (row_in A x a j)) b)
         (λ b k. rw (ne_eqb j x (omega arith), lt-ltb x j l, st.side j h, f, st.row x a j b hx ha h k, domain_is j h b)
-        (and_comm (bit (row_in index rows x a j) b) (bit (get_or w j 0) b) ∙ sym (bit-bit_and (get_or w j 0) (row_in index rows x a j) b)))
-        ∙ sym (mask_of_bits 16 (bit_and (get_or w j 0) (row_in index rows x a j)) (let s = and_le_l (get_or w j 0) (row_in index rows x a j) in let t = small j in omega arith))
+        (and_comm (bit (row_in A x a j) b) (bit (get_or w j 0) b) ∙ sym (bit-bit_and (get_or w j 0) (row_in A x a j) b)))
+        ∙ sym (mask_of_bits 16 (bit_and (get_or w j 0) (row_in A x a j)) (let s = and_le_l (get_or w j 0) (row_in A x a j) in let t = small j in omega arith))
 
     -- Where the check reaches j, the mask is what its row leaves; elsewhere it stays.
-    mask_reached : bit reach j ≡ true → mask_of 16 (forward_domains P D x a j) ≡ left_of (bit universal j) (row_in index rows x a j) (get_or w j 0)
+    mask_reached : bit reach j ≡ true → mask_of 16 (forward_domains P D x a j) ≡ left_of (bit A.universal j) (row_in A x a j) (get_or w j 0)
     unfolding left_of
     mask_reached e =
-        let t = and_out (bit (get_or near x 0) j) (ltb x j) (true_holds (sym (reached j h) ∙ e)) in
+        let t = and_out (bit (get_or A.near x 0) j) (ltb x j) (true_holds (sym (reached j h) ∙ e)) in
         let l = ltb-true x j (holds t.1) in
-        test (bit universal j)
-        (λ u. rw (holds {b = bit universal j} u) (mask_stays (omega arith) (rw (holds {b = bit universal j} u, holds {b = ltb x j} t.1))))
+        test (bit A.universal j)
+        (λ u. rw (holds {b = bit A.universal j} u) (mask_stays (omega arith) (rw (holds {b = bit A.universal j} u, holds {b = ltb x j} t.1))))
         (λ u. rw u (mask_met l u))
 
     mask_unreached : ¬ (j ≡ x) → bit reach j ≡ false → mask_of 16 (forward_domains P D x a j) ≡ get_or w j 0
-    mask_unreached d e = test (bit (get_or near x 0) j)
-        (λ t. mask_stays d (rw (le-ltb x j (by_lt x j (λ l. absurd (clash e (rw (reached j h, holds {b = bit (get_or near x 0) j} t, lt-ltb x j l) tt))) (λ l. l)))))
+    mask_unreached d e = test (bit (get_or A.near x 0) j)
+        (λ t. mask_stays d (rw (le-ltb x j (by_lt x j (λ l. absurd (clash e (rw (reached j h, holds {b = bit (get_or A.near x 0) j} t, lt-ltb x j l) tt))) (λ l. l)))))
         (λ f. mask_free d f)
 
     -- The check fails at j where rule 2 says so.
-    clashes-row : clashes P D x a j ≡ not (eqb (bit_and (get_or w j 0) (row_in index rows x a j)) (get_or w j 0))
+    clashes-row : clashes P D x a j ≡ not (eqb (bit_and (get_or w j 0) (row_in A x a j)) (get_or w j 0))
     unfolding clashes
     clashes-row =
-        some_same 16 (D j) (bit (get_or w j 0)) (λ b. not (P.compatible x a j b)) (λ b. not (bit (row_in index rows x a j) b)) (λ b l. domain_is j h b) (λ b l. ap not (st.row x a j b hx ha h l))
-        ∙ some-not 16 (bit (get_or w j 0)) (bit (row_in index rows x a j))
-        ∙ ap not (sym (within-each 16 (get_or w j 0) (row_in index rows x a j) (small j)))
+        some_same 16 (D j) (bit (get_or w j 0)) (λ b. not (P.compatible x a j b)) (λ b. not (bit (row_in A x a j) b)) (λ b l. domain_is j h b) (λ b l. ap not (st.row x a j b hx ha h l))
+        ∙ some-not 16 (bit (get_or w j 0)) (bit (row_in A x a j))
+        ∙ ap not (sym (within-each 16 (get_or w j 0) (row_in A x a j) (small j)))
 
-    clashes_free : bit (get_or near x 0) j ≡ false → clashes P D x a j ≡ false
+    clashes_free : bit (get_or A.near x 0) j ≡ false → clashes P D x a j ≡ false
     unfolding clashes
     clashes_free e = fails λ t. let r = some_out 16 (D j) (λ b. not (P.compatible x a j b)) t in clash (ap not (holds {b = P.compatible x a j r.0} (goes e r.0))) r.3
 
-    fails_is : ¬ (get_or w j 0 ≡ 0) → (ltb x j && forward_fails P D x a j) ≡ (bit reach j && failing universal index rows x a w j)
+    fails_is : ¬ (get_or w j 0 ≡ 0) → (ltb x j && forward_fails P D x a j) ≡ (bit reach j && failing A x a w j)
     unfolding failing fails_at
     fails_is z = by_lt x j
-        (λ l. rw (lt-ltb x j l, reached j h, lt-ltb x j l, st.side j h) (test (bit (get_or near x 0) j)
-        (λ t. rw (holds {b = bit (get_or near x 0) j} t) (test (bit universal j)
-        (λ u. rw (holds {b = bit universal j} u) clashes-row)
+        (λ l. rw (lt-ltb x j l, reached j h, lt-ltb x j l, st.side j h) (test (bit (get_or A.near x 0) j)
+        (λ t. rw (holds {b = bit (get_or A.near x 0) j} t) (test (bit A.universal j)
+        (λ u. rw (holds {b = bit A.universal j} u) clashes-row)
         (λ u. rw u (empty_mask P (forward_domains P D x a) j ∙ ap (λ (m : ℕ). eqb m 0) (mask_met l u)))))
-        (λ f. rw f (test (bit universal j)
-        (λ u. rw (holds {b = bit universal j} u) (clashes_free f))
+        (λ f. rw f (test (bit A.universal j)
+        (λ u. rw (holds {b = bit A.universal j} u) (clashes_free f))
         (λ u. rw u (empty_mask P (forward_domains P D x a) j ∙ ap (λ (m : ℕ). eqb m 0) (mask_free (omega arith) f) ∙ ne_eqb (get_or w j 0) 0 z))))))
-        (λ l. rw (le-ltb x j l, reached j h, le-ltb x j l) (go (bit (get_or near x 0) j)))
+        (λ l. rw (le-ltb x j l, reached j h, le-ltb x j l) (go (bit (get_or A.near x 0) j)))
       where
-        go : (c : Bool) → false ≡ ((c && false) && cond (bit universal j) (not (eqb (bit_and (get_or w j 0) (row_in index rows x a j)) (get_or w j 0))) (eqb (bit_and (get_or w j 0) (row_in index rows x a j)) 0))
+        go : (c : Bool) → false ≡ ((c && false) && cond (bit A.universal j) (not (eqb (bit_and (get_or w j 0) (row_in A x a j)) (get_or w j 0))) (eqb (bit_and (get_or w j 0) (row_in A x a j)) 0))
         go true = refl
         go false = refl
 
   -- The variable that a loss names is the first that fails.
-  named_is : ((j : ℕ) → j < n → ¬ (get_or w j 0 ≡ 0)) → forward_named P x a (list_in n w) ≡ first_failing universal index rows x a n (bit reach) w
+  named_is : ((j : ℕ) → j < n → ¬ (get_or w j 0 ≡ 0)) → forward_named P x a (list_in n w) ≡ first_failing A x a n (bit reach) w
   unfolding forward_named first_failing
   named_is z =
       ap (λ (k : ℕ). first k (λ j. ltb x j && forward_fails P D x a j)) st.size
-      ∙ first-agree n (λ j. ltb x j && forward_fails P D x a j) (λ j. bit reach j && failing universal index rows x a w j) (λ j h. fails_is j h (z j h))
+      ∙ first-agree n (λ j. ltb x j && forward_fails P D x a j) (λ j. bit reach j && failing A x a w j) (λ j h. fails_is j h (z j h))
 
   reach-own : bit reach x ≡ false
-  reach-own = reached x hx ∙ rw (le-ltb x x (omega arith)) (and-false (bit (get_or near x 0) x))
+  reach-own = reached x hx ∙ rw (le-ltb x x (omega arith)) (and-false (bit (get_or A.near x 0) x))
 
   -- The same from the words with x narrowed to a.
   abbrev narrowed : List ℕ
   narrowed = set w x (2 ^ a)
 
-  named_narrowed : first_failing universal index rows x a n (bit reach) narrowed ≡ first_failing universal index rows x a n (bit reach) w
+  named_narrowed : first_failing A x a n (bit reach) narrowed ≡ first_failing A x a n (bit reach) w
   unfolding first_failing failing
   named_narrowed = first-agree n _ _ λ j h. by_eq j x (λ e. rw (e, reach-own)) (λ e. rw (get_or-set_other w x j (2 ^ a) 0 e))
 
@@ -166,7 +170,7 @@ module _ (P : Problem) (n universal : ℕ) (near index rows : List ℕ) (st : St
     reason_narrowed : (j : ℕ) → reason_in narrowed j ≡ reason_in w j
     reason_narrowed j = let b = st.most in reason_set w x (2 ^ a) j (omega arith)
 
-    list_at : (j : ℕ) → j < n → cond (bit reach j) (mask_at universal index rows x a narrowed j) (get_or narrowed j 0) ≡ mask_of 16 (forward_domains P D x a j)
+    list_at : (j : ℕ) → j < n → cond (bit reach j) (mask_at A x a narrowed j) (get_or narrowed j 0) ≡ mask_of 16 (forward_domains P D x a j)
     unfolding mask_at
     list_at j h = by_eq j x
         (λ e. rw (e, reach-own) (let b = st.most in get_or-set_same w x (2 ^ a) 0 (omega arith)) ∙ sym (mask_own j h e))
@@ -174,7 +178,7 @@ module _ (P : Problem) (n universal : ℕ) (near index rows : List ℕ) (st : St
         (λ t. rw (holds {b = bit reach j} t) (sym (mask_reached j h (holds t))))
         (λ f. rw f (sym (mask_unreached j h e f)))))
 
-    why_at_lem : (j : ℕ) → j < n → cond (bit reach j) (why_at universal index rows x a (reason_in narrowed x) narrowed j) (reason_in narrowed j)
+    why_at_lem : (j : ℕ) → j < n → cond (bit reach j) (why_at A x a (reason_in narrowed x) narrowed j) (reason_in narrowed j)
         ≡ cond (eqb (mask_of 16 (forward_domains P D x a j)) (get_or w j 0)) (reason_in w j) (bit_or (reason_in w j) (reason_in w x))
     unfolding why_at reason_of
     why_at_lem j h = rw (sym (list_at j h), reason_narrowed j, reason_narrowed x) (by_eq j x
@@ -188,13 +192,13 @@ module _ (P : Problem) (n universal : ℕ) (near index rows : List ℕ) (st : St
         either false r = refl
 
     -- The words that the check leaves are those of rule 2.
-    words_are : (q : ℕ) → q ≡ reason_in narrowed x → checked_words universal index rows x a n q (bit reach) narrowed ≡ after_forward P n x a w
+    words_are : (q : ℕ) → q ≡ reason_in narrowed x → checked_words A x a n q (bit reach) narrowed ≡ after_forward P n x a w
     unfolding checked_words after_forward explain_forward forward_reasons forward masks_of
     words_are q e =
         rw e (holding-narrowed _ _)
         ∙ ap₂ (holding n w)
         (list_of_same n _ _ list_at ∙ ap (λ (k : ℕ). list_of k (λ j. mask_of 16 (forward_domains P D x a j))) (sym st.size))
-        (list_of_same n (λ j. cond (bit reach j) (why_at universal index rows x a (reason_in narrowed x) narrowed j) (reason_in narrowed j)) (reasons n)
+        (list_of_same n (λ j. cond (bit reach j) (why_at A x a (reason_in narrowed x) narrowed j) (reason_in narrowed j)) (reasons n)
         (λ j h. why_at_lem j h ∙ rw (get_d_list_of n M j h, get_d_list_in n w j h, get_d_why_in n w j h, get_d_why_in n w x hx))
         ∙ ap (λ (k : ℕ). list_of k (reasons k)) (sym st.size))
       where
@@ -204,55 +208,68 @@ module _ (P : Problem) (n universal : ℕ) (near index rows : List ℕ) (st : St
         reasons : ℕ → ℕ → ℕ
         reasons = λ k j. cond (eqb (get_or (list_of k M) j 0) (get_or (list_in n w) j 0)) (get_or (why_in n w) j 0) (bit_or (get_or (why_in n w) j 0) (get_or (why_in n w) x 0))
 
-        holding-narrowed : (A B : List ℕ) → holding n narrowed A B ≡ holding n w A B
-        holding-narrowed A B =
-            ap (λ (v : List ℕ). holding n (set v x (2 ^ a)) A B) (sym (holding-own n st.most w l small))
-            ∙ ap (λ (v : List ℕ). holding n v A B) (set-domain n st.most w l (list_in n w) (why_in n w) (length-list_in n w) x (2 ^ a) hx)
-            ∙ holding_again n st.most w l (set (list_in n w) x (2 ^ a)) (why_in n w) A B
+        holding-narrowed : (K L : List ℕ) → holding n narrowed K L ≡ holding n w K L
+        holding-narrowed K L =
+            ap (λ (v : List ℕ). holding n (set v x (2 ^ a)) K L) (sym (holding-own n st.most w l small))
+            ∙ ap (λ (v : List ℕ). holding n v K L) (set-domain n st.most w l (list_in n w) (why_in n w) (length-list_in n w) x (2 ^ a) hx)
+            ∙ holding_again n st.most w l (set (list_in n w) x (2 ^ a)) (why_in n w) K L
 
 -- What the code of the forward check ends with: m, v and q are its later neighbours, its narrowed mask and its reason.
-pub forward_ends : (P : Problem) (n universal : ℕ) (near index rows : List ℕ) → States P n universal near index rows
+pub forward_ends : (P : Problem) (n : ℕ) (A : Arrays) → States P n A
     → (x a : ℕ) → x < n → a < 16 → (w : List ℕ) → ((k : ℕ) → get_or w k 0 < 65536) → 96 ≤ length w → ((j : ℕ) → j < n → ¬ (get_or w j 0 ≡ 0))
-    → (m v q r : ℕ) (w' : List ℕ) → m ≡ later_of (get_or near x 0) x n → v ≡ 2 ^ a → q ≡ reason_in (set w x v) x
-    → r ≡ first_failing universal index rows x a n (bit m) (set w x v) → w' ≡ checked_words universal index rows x a n q (bit m) (set w x v)
+    → (m v q r : ℕ) (w' : List ℕ) → m ≡ later_of (get_or A.near x 0) x n → v ≡ 2 ^ a → q ≡ reason_in (set w x v) x
+    → r ≡ first_failing A x a n (bit m) (set w x v) → w' ≡ checked_words A x a n q (bit m) (set w x v)
     → (r ≡ forward_named P x a (list_in n w)) × (w' ≡ after_forward P n x a w)
-forward_ends P n universal near index rows st x a hx ha w small l z m v q r w' em ev eq er ew = (
-  er ∙ ap₂ (λ (m v : ℕ). first_failing universal index rows x a n (bit m) (set w x v)) em ev
-      ∙ named_narrowed P n universal near index rows st x a hx ha w small ∙ sym (named_is P n universal near index rows st x a hx ha w small z),
-  ew ∙ ap₂ (λ (m v : ℕ). checked_words universal index rows x a n q (bit m) (set w x v)) em ev
-      ∙ words_are P n universal near index rows st x a hx ha w small l q (eq ∙ ap (λ (v : ℕ). reason_in (set w x v) x) ev),
+forward_ends P n A st x a hx ha w small l z m v q r w' em ev eq er ew = (
+  er ∙ ap₂ (λ (m v : ℕ). first_failing A x a n (bit m) (set w x v)) em ev
+      ∙ named_narrowed P n A st x a hx ha w small ∙ sym (named_is P n A st x a hx ha w small z),
+  ew ∙ ap₂ (λ (m v : ℕ). checked_words A x a n q (bit m) (set w x v)) em ev
+      ∙ words_are P n A st x a hx ha w small l q (eq ∙ ap (λ (v : ℕ). reason_in (set w x v) x) ev),
 )
+
+-- So it ends where the reply tells the variable, or none.
+pub forward_said : (P : Problem) (n : ℕ) (A : Arrays) → States P n A
+    → (x a : ℕ) → x < n → a < 16 → (w : List ℕ) → ((k : ℕ) → get_or w k 0 < 65536) → 96 ≤ length w → ((j : ℕ) → j < n → ¬ (get_or w j 0 ≡ 0))
+    → (m v q : ℕ) (r : Option ℕ) (w' : List ℕ) → m ≡ later_of (get_or A.near x 0) x n → v ≡ 2 ^ a → q ≡ reason_in (set w x v) x
+    → r ≡ found n (first_failing A x a n (bit m) (set w x v)) → w' ≡ checked_words A x a n q (bit m) (set w x v)
+    → (r ≡ found n (forward_named P x a (list_in n w))) × (w' ≡ after_forward P n x a w)
+forward_said P n A st x a hx ha w small l z m v q r w' em ev eq er ew =
+    let t = forward_ends P n A st x a hx ha w small l z m v q _ w' em ev eq refl ew in (er ∙ ap (found n) t.0, t.1)
 
 -- A forward check is a loss where it names a variable.
 pub loss_named_lem : (P : Problem) (x a : ℕ) (l : List ℕ) → forward_loss P (domains l) x a ≡ ltb (forward_named P x a l) P.n
 unfolding forward_loss forward_named
 loss_named_lem P x a l = first_some P.n (ltb x) (forward_fails P (domains l) x a)
 
-module _ (P : Problem) (n universal : ℕ) (near index rows : List ℕ) (st : States P n universal near index rows)
+module _ (P : Problem) (n : ℕ) (A : Arrays) (st : States P n A)
     (i : ℕ) (hi : i < n) (w : List ℕ) (small : (k : ℕ) → get_or w k 0 < 65536) (z : (j : ℕ) → j < n → ¬ (get_or w j 0 ≡ 0)) where
   -- Look ahead names the first losing value, and the variable at which it fails.
-  value_is : ahead_value P n i w ≡ first_losing universal index rows i n (later_of (get_or near i 0) i n) (cond (bit universal i) (get_or w i 0) 0) w
+  value_is : ahead_value P n i w ≡ first_losing A i n (later_of (get_or A.near i 0) i n) (cond (bit A.universal i) (get_or w i 0) 0) w
   unfolding ahead_value ahead_named first_losing losing
-  value_is = rw (st.side i hi) (test (bit universal i)
-      (λ t. rw (holds {b = bit universal i} t) (first-agree 16 _ _ λ a l.
-      rw (domain_is P n universal near index rows st i a hi l w small i hi a, loss_named_lem P i a (list_in n w), named_is P n universal near index rows st i a hi l w small z, st.size)))
+  value_is = rw (st.side i hi) (test (bit A.universal i)
+      (λ t. rw (holds {b = bit A.universal i} t) (first-agree 16 _ _ λ a l.
+      rw (domain_is P n A st i a hi l w small i hi a, loss_named_lem P i a (list_in n w), named_is P n A st i a hi l w small z, st.size)))
       (λ f. rw f (sym (first_none 16 _ λ a l. rw (bit_of_zero a)))))
 
-  variable_is : ahead_variable P n i w ≡ losing_at universal index rows i n (later_of (get_or near i 0) i n) (cond (bit universal i) (get_or w i 0) 0) w
+  variable_is : ahead_variable P n i w ≡ losing_at A i n (later_of (get_or A.near i 0) i n) (cond (bit A.universal i) (get_or w i 0) 0) w
   unfolding ahead_variable losing_at
-  variable_is = rw value_is (go (first_losing universal index rows i n (later_of (get_or near i 0) i n) (cond (bit universal i) (get_or w i 0) 0) w))
+  variable_is = rw value_is (go (first_losing A i n (later_of (get_or A.near i 0) i n) (cond (bit A.universal i) (get_or w i 0) 0) w))
     where
-      go : (a : ℕ) → cond (ltb a 16) (forward_named P i a (list_in n w)) n ≡ cond (ltb a 16) (first_failing universal index rows i a n (bit (later_of (get_or near i 0) i n)) w) n
-      go a = by_lt a 16 (λ l. rw (lt-ltb a 16 l) (named_is P n universal near index rows st i a hi l w small z)) (λ l. rw (le-ltb a 16 l))
+      go : (a : ℕ) → cond (ltb a 16) (forward_named P i a (list_in n w)) n ≡ cond (ltb a 16) (first_failing A i a n (bit (later_of (get_or A.near i 0) i n)) w) n
+      go a = by_lt a 16 (λ l. rw (lt-ltb a 16 l) (named_is P n A st i a hi l w small z)) (λ l. rw (le-ltb a 16 l))
 
   -- What the code of look ahead ends with: m and d are its later neighbours and the values that it tries.
-  pub ahead_ends : (m d value variable : ℕ) → m ≡ later_of (get_or near i 0) i n → d ≡ cond (bit universal i) (get_or w i 0) 0
-      → value ≡ first_losing universal index rows i n m d w → variable ≡ losing_at universal index rows i n m d w
+  pub ahead_ends : (m d value variable : ℕ) → m ≡ later_of (get_or A.near i 0) i n → d ≡ cond (bit A.universal i) (get_or w i 0) 0
+      → value ≡ first_losing A i n m d w → variable ≡ losing_at A i n m d w
       → (value ≡ ahead_value P n i w) × (variable ≡ ahead_variable P n i w)
   ahead_ends m d value variable em ed p q = (
-    p ∙ ap₂ (λ (m d : ℕ). first_losing universal index rows i n m d w) em ed ∙ sym value_is,
-    q ∙ ap₂ (λ (m d : ℕ). losing_at universal index rows i n m d w) em ed ∙ sym variable_is,
+    p ∙ ap₂ (λ (m d : ℕ). first_losing A i n m d w) em ed ∙ sym value_is,
+    q ∙ ap₂ (λ (m d : ℕ). losing_at A i n m d w) em ed ∙ sym variable_is,
   )
+
+  pub ahead_said : (m d : ℕ) (r : Option Ahead) → m ≡ later_of (get_or A.near i 0) i n → d ≡ cond (bit A.universal i) (get_or w i 0) 0
+      → r ≡ ahead (first_losing A i n m d w) (losing_at A i n m d w) → r ≡ ahead (ahead_value P n i w) (ahead_variable P n i w)
+  ahead_said m d r em ed e = let t = ahead_ends m d _ _ em ed refl refl in e ∙ ap₂ ahead t.0 t.1
 
 -- Look ahead is a loss where it names a value.
 pub ahead_named_lem : (P : Problem) (n i : ℕ) (w : List ℕ) → look_ahead P i (list_in n w) ≡ ltb (ahead_value P n i w) 16
@@ -264,20 +281,21 @@ ahead_named_lem P n i w = go (P.universal i) _ _ (first_some 16 (domains (list_i
     go false s k e = refl
 
 -- Neighbours as the arrays have them.
-neighbours_are : (P : Problem) (n universal : ℕ) (near index rows : List ℕ) → States P n universal near index rows → (x : ℕ) → x < n → get_or near x 0 < 2 ^ 32
-    → get_or near x 0 ≡ neighbours P x
+neighbours_are : (P : Problem) (n : ℕ) (A : Arrays) → States P n A → (x : ℕ) → x < n → get_or A.near x 0 < 2 ^ 32
+    → get_or A.near x 0 ≡ neighbours P x
 unfolding neighbours
-neighbours_are P n universal near index rows st x h s =
+neighbours_are P n A st x h s =
     let m = pow_mono {i = n} {j = 32} st.most in
     let b = mask_of_lt n (P.constrained x) in
-    bit_ext 32 (get_or near x 0) (mask_of n (P.constrained x)) s (omega arith)
+    bit_ext 32 (get_or A.near x 0) (mask_of n (P.constrained x)) s (omega arith)
     (λ k l. by_lt k n (λ r. sym (bit-mask_of n (P.constrained x) k r ∙ st.joined x k h r)) (λ r. st.inside x k h r ∙ bit_of_zero k ∙ sym (bit_high n (mask_of n (P.constrained x)) k b r)))
     ∙ ap (λ (k : ℕ). mask_of k (P.constrained x)) (sym st.size)
 
-pub conflict_is : (P : Problem) (n universal : ℕ) (near index rows : List ℕ) → States P n universal near index rows → (k x : ℕ) → x < n → get_or near x 0 < 2 ^ 32
-    → (w : List ℕ) (a b r : ℕ) → a ≡ reason_in w k → b ≡ reason_in w x → r ≡ bit_or a (bit_or b (get_or near x 0)) → r ≡ conflict_in P k x w
+pub conflict_is : (P : Problem) (n : ℕ) (A : Arrays) → States P n A → (k x : ℕ) → x < n
+    → (w : List ℕ) (a b m : ℕ) → a < 2 ^ 32 → b < 2 ^ 32 → m < 2 ^ 32 → a ≡ reason_in w k → b ≡ reason_in w x → m ≡ get_or A.near x 0 → bit_or (bit_or a b) m ≡ conflict_in P k x w
 unfolding conflict_in
-conflict_is P n universal near index rows st k x h s w a b r p q e = e ∙ rw (p, q, neighbours_are P n universal near index rows st x h s)
+conflict_is P n A st k x h w a b m la lb lm p q e =
+    or_assoc 32 a b m la lb lm ∙ rw (p, q, e) (ap (λ (s : ℕ). bit_or (reason_in w k) (bit_or (reason_in w x) s)) (neighbours_are P n A st x h (subst (λ (s : ℕ). s < 2 ^ 32) e lm)))
 
 -- The conflict sets of the game, of a loss at x: by the words before the check, which look ahead has too, and by those that the check leaves.
 reason_lt : (w : List ℕ) → ((k : ℕ) → get_or w k 0 < 65536) → (j : ℕ) → reason_in w j < 2 ^ 32

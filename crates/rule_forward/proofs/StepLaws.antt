@@ -1,8 +1,8 @@
 -- The check of one value, a variable at a time: what each step of the code leaves.
-use mathlib.Core.Path.{◌≡◌, refl, sym, ap, ap₂, ◌∙◌, fun_ext}
+use mathlib.Core.Path.{◌≡◌, refl, sym, ap, ap₂, subst, ◌∙◌, fun_ext}
 use mathlib.Core.Bool.{Bool, true, false, cond, not, ◌&&◌, ◌||◌, and-false, and-true, and-not_self, or-false}
 use mathlib.Core.List.{List}
-use Prim.Native.Nat.{ℕ, ◌+◌, ◌-◌, ◌^◌, ◌≤◌, ◌<◌}
+use Prim.Native.Nat.{ℕ, ◌+◌, ◌-◌, ◌^◌, ◌≤◌, ◌<◌, min}
 use native.Mathlib.Omega.{arith}
 use lib.Dec.{T, eqb, ltb}
 use lib.Bits.{bit_and, bit_or, and_lt}
@@ -10,9 +10,12 @@ use lib.ListN.{get_or, length, set}
 use lib.Seq.{get_or-set_other, set-get_or}
 use lib.Pow.{pow_pos, pow_mono}
 use borrow.Author.Tests.{eq-eqb, ne_eqb, eqb-true, lt-ltb, le-ltb, ltb-true}
+use Rattle.std.specs.Prelude.{Some, None}
 use Rattle.mask.specs.Range.{first}
-use Rattle.mask.specs.Mask.{bit, rest}
-use Rattle.mask.proofs.Logic.{holds, true_holds, by_eq, by_lt, and_out, or_out_false}
+use Rattle.mask.specs.Found.{found}
+use Rattle.mask.specs.Mask.{bit, rest, mask_of}
+use Rattle.mask.proofs.Logic.{holds, true_holds, fails, by_eq, by_lt, and_out, or_out_false}
+use Rattle.mask.proofs.Found.{found_some, found_none}
 use Rattle.mask.proofs.Bits.{bit-bit_and, bit-bit_or, bit_single, bit_ext, bit_high, bit_of_zero}
 use Rattle.mask.proofs.Masks.{mask_of_lt, bit-mask_of, bit_not}
 use Rattle.mask.proofs.Range.{first_none, first_more}
@@ -22,7 +25,9 @@ use Rattle.theory.proofs.Lists.{length-list_of, get_d_list_of, list_of_same, set
 use Rattle.solver_arrays.specs.Arrays.{row_in}
 use Rattle.solver_arrays.specs.Words.{list_in, why_in, reason_in, put_reason, holding}
 use Rattle.solver_arrays.proofs.WordLaws.{length-holding, holding-domain, holding_reason, holding-own, set-domain, set_reason, put_kept, reason_set, put-domain}
-use Rattle.rule_forward.specs.OneValue.{later_of, left_of, fails_at, reason_of, checked_at, mask_at, why_at, failing, checked_words, first_failing, Unmoved, losing, first_losing, losing_at}
+use Rattle.rule_forward.specs.OneValue.{later_of, left_of, fails_at, reason_of, checked_at, mask_at, why_at, failing, checked_words, first_failing, Unmoved, losing, first_losing, losing_at, ahead}
+use Rattle.solver_arrays.specs.declared.arrays.Arrays.{Arrays}
+use Rattle.rule_forward.specs.declared.steps.Ahead.{Ahead}
 
 -- The members after x and below n ------------------------------------------------------------------------------
 -- The bits from y on below n.
@@ -65,6 +70,19 @@ pub later_in : (m x n : ℕ) → n ≤ 32 → (k : ℕ) → T (bit (later_of m x
 later_in m x n b k t =
     let r = and_out (bit m k) (ltb x k && ltb k n) (rw (bit_later m x n b k) at t) in
     ltb-true k n (holds (and_out (ltb x k) (ltb k n) r.1).1)
+
+-- A mask of members below n has n places.
+pub fits_below : (n m : ℕ) → n ≤ 32 → m < 2 ^ 32 → ((k : ℕ) → T (bit m k) → k < n) → m < 2 ^ n
+fits_below n m b h f =
+    subst (λ x. x < 2 ^ n) (sym (bit_ext 32 m (mask_of n (bit m)) h (let p = pow_mono {i = n} {j = 32} b in omega (arith, mask_of_lt n (bit m))) same)) (mask_of_lt n (bit m))
+  where
+    same : (k : ℕ) → k < 32 → bit m k ≡ bit (mask_of n (bit m)) k
+    same k _ = by_lt k n (λ l. sym (bit-mask_of n (bit m) k l))
+        (λ l. fails {b = bit m k} (λ t. let r = f k t in omega arith) ∙ sym (bit_high n (mask_of n (bit m)) k (mask_of_lt n (bit m)) l))
+
+-- The lower of two variables.
+pub least_is : (named j : ℕ) → min named j ≡ cond (ltb j named) j named
+least_is named j = by_lt j named (λ l. rw (lt-ltb j named l) (omega arith)) (λ l. rw (le-ltb j named l) (omega arith))
 
 -- One variable -------------------------------------------------------------------------------------------------
 module _ (w : List ℕ) (small : (k : ℕ) → get_or w k 0 < 65536) where
@@ -130,39 +148,39 @@ pub within-rest : (m left left' : ℕ) → left < 2 ^ 32 → ¬ (left ≡ 0) →
 within-rest m left left' h z e s k t = s k (and_out (bit left k) (not (eqb k (first 32 (bit left)))) (rw (e, bit-rest 32 left h z k) at t)).0
 
 -- What holds when the members `left` of m are still to be checked: v are the words by then, and `named` is the lowest that failed.
-pub record Passing (universal : ℕ) (index rows : List ℕ) (x a n q m : ℕ) (w : List ℕ) (left : ℕ) (v : List ℕ) (named : ℕ) : Type 0 where
+pub record Passing (A : Arrays) (x a n q m : ℕ) (w : List ℕ) (left : ℕ) (v : List ℕ) (named : ℕ) : Type 0 where
   pub within : (k : ℕ) → T (bit left k) → T (bit m k)
-  pub words : v ≡ checked_words universal index rows x a n q (passed m left) w
-  pub lowest : named ≡ first_failing universal index rows x a n (passed m left) w
+  pub words : v ≡ checked_words A x a n q (passed m left) w
+  pub lowest : named ≡ first_failing A x a n (passed m left) w
 
-module _ (universal : ℕ) (index rows : List ℕ) (x a n q : ℕ) (b : n ≤ 32) (w : List ℕ) (l : 96 ≤ length w) where
+module _ (A : Arrays) (x a n q : ℕ) (b : n ≤ 32) (w : List ℕ) (l : 96 ≤ length w) where
   -- Nothing checked: the words as they are.
-  checked_none : ((k : ℕ) → get_or w k 0 < 65536) → (d : ℕ → Bool) → ((k : ℕ) → d k ≡ false) → w ≡ checked_words universal index rows x a n q d w
+  checked_none : ((k : ℕ) → get_or w k 0 < 65536) → (d : ℕ → Bool) → ((k : ℕ) → d k ≡ false) → w ≡ checked_words A x a n q d w
   unfolding checked_words list_in why_in
   checked_none small d e =
       sym (ap₂ (holding n w) (list_of_same n _ (λ j. get_or w j 0) (λ k h. rw (e k))) (list_of_same n _ (reason_in w) (λ k h. rw (e k))) ∙ holding-own n b w l small)
 
-  pub length_checked : (d : ℕ → Bool) → length (checked_words universal index rows x a n q d w) ≡ length w
+  pub length_checked : (d : ℕ → Bool) → length (checked_words A x a n q d w) ≡ length w
   unfolding checked_words
   length_checked d = length-holding n w _ _
 
   module _ (d : ℕ → Bool) (j : ℕ) (h : j < n) (e : d j ≡ false) where
     -- A variable that is not yet checked has its mask and its reason.
-    mask_yet : get_or (checked_words universal index rows x a n q d w) j 0 ≡ get_or w j 0
+    mask_yet : get_or (checked_words A x a n q d w) j 0 ≡ get_or w j 0
     unfolding checked_words
     mask_yet = holding-domain n b w l _ _ j h ∙ get_d_list_of n _ j h ∙ rw e
 
-    reason_yet : reason_in (checked_words universal index rows x a n q d w) j ≡ reason_in w j
+    reason_yet : reason_in (checked_words A x a n q d w) j ≡ reason_in w j
     unfolding checked_words
     reason_yet = holding_reason n b w l _ _ j h ∙ get_d_list_of n _ j h ∙ rw e
 
-    failing_yet : failing universal index rows x a (checked_words universal index rows x a n q d w) j ≡ failing universal index rows x a w j
+    failing_yet : failing A x a (checked_words A x a n q d w) j ≡ failing A x a w j
     unfolding failing
-    failing_yet = ap (fails_at (bit universal j) (row_in index rows x a j)) mask_yet
+    failing_yet = ap (fails_at (bit A.universal j) (row_in A x a j)) mask_yet
 
     -- It is checked next.
-    checked_there : checked_at (bit universal j) (row_in index rows x a j) q (checked_words universal index rows x a n q d w) j
-        ≡ put_reason (set (checked_words universal index rows x a n q d w) j (mask_at universal index rows x a w j)) j (why_at universal index rows x a q w j)
+    checked_there : checked_at (bit A.universal j) (row_in A x a j) q (checked_words A x a n q d w) j
+        ≡ put_reason (set (checked_words A x a n q d w) j (mask_at A x a w j)) j (why_at A x a q w j)
     unfolding checked_at mask_at why_at
     checked_there = rw (mask_yet, reason_yet)
 
@@ -176,100 +194,103 @@ module _ (universal : ℕ) (index rows : List ℕ) (x a n q : ℕ) (b : n ≤ 32
         go false u v = refl
 
     checked_next : (d' : ℕ → Bool) → ((k : ℕ) → d' k ≡ (d k || eqb k j))
-        → checked_at (bit universal j) (row_in index rows x a j) q (checked_words universal index rows x a n q d w) j ≡ checked_words universal index rows x a n q d' w
+        → checked_at (bit A.universal j) (row_in A x a j) q (checked_words A x a n q d w) j ≡ checked_words A x a n q d' w
     unfolding checked_words
     checked_next d' o =
-        let L = list_of n (λ j. cond (d j) (mask_at universal index rows x a w j) (get_or w j 0)) in
-        let W = list_of n (λ j. cond (d j) (why_at universal index rows x a q w j) (reason_in w j)) in
-        let v = mask_at universal index rows x a w j in
-        let r = why_at universal index rows x a q w j in
+        let L = list_of n (λ j. cond (d j) (mask_at A x a w j) (get_or w j 0)) in
+        let W = list_of n (λ j. cond (d j) (why_at A x a q w j) (reason_in w j)) in
+        let v = mask_at A x a w j in
+        let r = why_at A x a q w j in
         checked_there
         ∙ ap (λ z. put_reason z j r) (set-domain n b w l L W (length-list_of n _) j v h)
         ∙ set_reason n b w l (set L j v) W (length-list_of n _) j r h
-        ∙ ap₂ (holding n w) (one_more d' o (mask_at universal index rows x a w) (λ j. get_or w j 0)) (one_more d' o (why_at universal index rows x a q w) (reason_in w))
+        ∙ ap₂ (holding n w) (one_more d' o (mask_at A x a w) (λ j. get_or w j 0)) (one_more d' o (why_at A x a q w) (reason_in w))
 
   -- The loop over the members of m: all are left, one is checked, none is left.
-  pub passing_start : ((k : ℕ) → get_or w k 0 < 65536) → (m : ℕ) → Passing universal index rows x a n q m w m w n
+  pub passing_start : ((k : ℕ) → get_or w k 0 < 65536) → (m : ℕ) → Passing A x a n q m w m w n
   unfolding first_failing
   passing_start small m = record {
     within = λ k t. t;
     words = checked_none small (passed m m) (passed_none m);
-    lowest = sym (first_none n (λ j. passed m m j && failing universal index rows x a w j) λ k h. rw (passed_none m k));
+    lowest = sym (first_none n (λ j. passed m m j && failing A x a w j) λ k h. rw (passed_none m k));
   }
 
-  pub passing_end : (m left : ℕ) (v : List ℕ) (named : ℕ) → Passing universal index rows x a n q m w left v named → left ≡ 0
-      → (named ≡ first_failing universal index rows x a n (bit m) w) × (v ≡ checked_words universal index rows x a n q (bit m) w)
+  pub passing_end : (m left : ℕ) (v : List ℕ) (named : ℕ) → Passing A x a n q m w left v named → left ≡ 0
+      → (named ≡ first_failing A x a n (bit m) w) × (v ≡ checked_words A x a n q (bit m) w)
   passing_end m left v named p e = (
-    p.lowest ∙ rw e (ap (λ (d : ℕ → Bool). first_failing universal index rows x a n d w) (fun_ext (passed_all m))),
-    p.words ∙ rw e (ap (λ (d : ℕ → Bool). checked_words universal index rows x a n q d w) (fun_ext (passed_all m))),
+    p.lowest ∙ rw e (ap (λ (d : ℕ → Bool). first_failing A x a n d w) (fun_ext (passed_all m))),
+    p.words ∙ rw e (ap (λ (d : ℕ → Bool). checked_words A x a n q d w) (fun_ext (passed_all m))),
   )
 
   module _ (m : ℕ) (inside : (k : ℕ) → T (bit m k) → k < n) (left : ℕ) (h : left < 2 ^ 32) (z : ¬ (left ≡ 0)) (v : List ℕ) (named : ℕ)
-      (p : Passing universal index rows x a n q m w left v named) where
+      (p : Passing A x a n q m w left v named) where
     low_below : first 32 (bit left) < n
     low_below = inside (first 32 (bit left)) (p.within (first 32 (bit left)) (low_in 32 left h z))
 
-    words_more : checked_at (bit universal (first 32 (bit left))) (row_in index rows x a (first 32 (bit left))) q (checked_words universal index rows x a n q (passed m left) w) (first 32 (bit left))
-        ≡ checked_words universal index rows x a n q (passed m (rest left)) w
+    words_more : checked_at (bit A.universal (first 32 (bit left))) (row_in A x a (first 32 (bit left))) q (checked_words A x a n q (passed m left) w) (first 32 (bit left))
+        ≡ checked_words A x a n q (passed m (rest left)) w
     words_more = checked_next (passed m left) (first 32 (bit left)) low_below (passed-low m left h z) (passed m (rest left)) (passed_more m left h z p.within)
 
-    named_more : cond (failing universal index rows x a w (first 32 (bit left)) && ltb (first 32 (bit left)) (first_failing universal index rows x a n (passed m left) w))
-        (first 32 (bit left)) (first_failing universal index rows x a n (passed m left) w) ≡ first_failing universal index rows x a n (passed m (rest left)) w
+    named_more : cond (failing A x a w (first 32 (bit left)) && ltb (first 32 (bit left)) (first_failing A x a n (passed m left) w))
+        (first 32 (bit left)) (first_failing A x a n (passed m left) w) ≡ first_failing A x a n (passed m (rest left)) w
     unfolding first_failing
     named_more =
-        first_more n (λ k. passed m left k && failing universal index rows x a w k) (λ k. passed m (rest left) k && failing universal index rows x a w k)
-        (first 32 (bit left)) (failing universal index rows x a w (first 32 (bit left))) low_below
+        first_more n (λ k. passed m left k && failing A x a w k) (λ k. passed m (rest left) k && failing A x a w k)
+        (first 32 (bit left)) (failing A x a w (first 32 (bit left))) low_below
         λ k r. rw (passed_more m left h z p.within k) (by_eq k (first 32 (bit left))
         (λ e. rw (e, eq-eqb (first 32 (bit left)) (first 32 (bit left)) refl, passed-low m left h z))
-        (λ e. rw (ne_eqb k (first 32 (bit left)) e) (ap (λ (b : Bool). b && failing universal index rows x a w k) (or-false (passed m left k)) ∙ sym (or-false (passed m left k && failing universal index rows x a w k)))))
+        (λ e. rw (ne_eqb k (first 32 (bit left)) e) (ap (λ (b : Bool). b && failing A x a w k) (or-false (passed m left k)) ∙ sym (or-false (passed m left k && failing A x a w k)))))
 
     -- A turn of the loop, as the code has it: j is the lowest member left, and the names with a dash are those of the next turn.
-    pub passing_turn : (j left' : ℕ) (lost : Bool) (v' : List ℕ) (named' : ℕ) → j ≡ first 32 (bit left) → left' ≡ rest left → lost ≡ failing universal index rows x a v j
-        → v' ≡ checked_at (bit universal j) (row_in index rows x a j) q v j → named' ≡ cond (lost && ltb j named) j named
-        → Passing universal index rows x a n q m w left' v' named'
+    pub passing_turn : (j left' : ℕ) (lost : Bool) (v' : List ℕ) (named' : ℕ) → j ≡ first 32 (bit left) → left' ≡ rest left → lost ≡ failing A x a v j
+        → v' ≡ checked_at (bit A.universal j) (row_in A x a j) q v j → named' ≡ cond (lost && ltb j named) j named
+        → Passing A x a n q m w left' v' named'
     passing_turn j left' lost v' named' s t f g e = record {
       within = within-rest m left left' h z t p.within;
       words = g ∙ rw (p.words, s, t) words_more;
       lowest = e ∙ rw (f, p.lowest, p.words, s, t, failing_yet (passed m left) (first 32 (bit left)) low_below (passed-low m left h z)) named_more;
     }
 
--- The loop that looks for the first failing member: found at the lowest member j, not there, and nowhere.
-module _ (universal : ℕ) (index rows : List ℕ) (x a n : ℕ) (w : List ℕ) (whole left : ℕ) (p : whole ≡ first_failing universal index rows x a n (bit left) w) where
-  pub nowhere : left ≡ 0 → n ≡ whole
-  unfolding first_failing
-  nowhere e = sym (p ∙ rw e (first_none n _ λ k h. rw (bit_of_zero k)))
-
-  module _ (h : left < 2 ^ 32) (z : ¬ (left ≡ 0)) (j : ℕ) (s : j ≡ first 32 (bit left)) (b : Bool) (f : b ≡ failing universal index rows x a w j) where
-    pub found : first 32 (bit left) < n → b ≡ true → j ≡ whole
-    unfolding first_failing
-    found l t = s ∙ sym (p ∙ first_found n 32 left h z (failing universal index rows x a w) l (true_holds (sym (ap (failing universal index rows x a w) s) ∙ sym f ∙ t)))
-
-    pub not_there : b ≡ false → (left' : ℕ) → left' ≡ rest left → whole ≡ first_failing universal index rows x a n (bit left') w
-    unfolding first_failing
-    not_there t left' e = p ∙ first_on n 32 left h z (failing universal index rows x a w) (sym (ap (failing universal index rows x a w) s) ∙ sym f ∙ t) ∙ rw e
-
 -- The loop that looks for the first losing value: nowhere, found at the lowest value a, and not there.
-module _ (universal : ℕ) (index rows : List ℕ) (x n m : ℕ) (w : List ℕ) (d left : ℕ)
-    (p : first_losing universal index rows x n m d w ≡ first_losing universal index rows x n m left w) where
-  none_loses : left ≡ 0 → first_losing universal index rows x n m d w ≡ 16
+module _ (A : Arrays) (x n m : ℕ) (w : List ℕ) (d left : ℕ)
+    (p : first_losing A x n m d w ≡ first_losing A x n m left w) where
+  none_loses : left ≡ 0 → first_losing A x n m d w ≡ 16
   unfolding first_losing
   none_loses e = p ∙ rw e (first_none 16 _ λ k h. rw (bit_of_zero k))
 
-  pub losing_none : left ≡ 0 → (16 ≡ first_losing universal index rows x n m d w) × (n ≡ losing_at universal index rows x n m d w)
-  unfolding losing_at
-  losing_none e = (sym (none_loses e), rw (none_loses e))
+  pub losing_none : left ≡ 0 → None ≡ ahead (first_losing A x n m d w) (losing_at A x n m d w)
+  unfolding ahead
+  losing_none e = rw (none_loses e)
 
-  module _ (h : left < 2 ^ 16) (z : ¬ (left ≡ 0)) (a : ℕ) (s : a ≡ first 16 (bit left)) (v : ℕ) (f : v ≡ first_failing universal index rows x a n (bit m) w) where
-    a_loses : v < n → first_losing universal index rows x n m d w ≡ a
+  module _ (h : left < 2 ^ 16) (z : ¬ (left ≡ 0)) (a : ℕ) (s : a ≡ first 16 (bit left)) where
+    abbrev failing_there : ℕ
+    failing_there = first_failing A x a n (bit m) w
+
+    a_loses : failing_there < n → first_losing A x n m d w ≡ a
     unfolding first_losing losing
     a_loses l =
-        p ∙ first_found 16 16 left h z (λ a. ltb (first_failing universal index rows x a n (bit m) w) n) (low_lt 16 left h z)
-        (rw (sym s, sym f, lt-ltb v n l) tt) ∙ sym s
+        p ∙ first_found 16 16 left h z (λ a. ltb (first_failing A x a n (bit m) w) n) (low_lt 16 left h z)
+        (rw (sym s, lt-ltb failing_there n l) tt) ∙ sym s
 
-    pub losing-found : v < n → (a ≡ first_losing universal index rows x n m d w) × (v ≡ losing_at universal index rows x n m d w)
-    unfolding losing_at
-    losing-found l = (sym (a_loses l), rw (a_loses l, lt-ltb a 16 (let k = low_lt 16 left h z in omega arith)) f)
+    pub losing-found : (v : ℕ) → Some v ≡ found n failing_there → Some record { value = a; variable = v } ≡ ahead (first_losing A x n m d w) (losing_at A x n m d w)
+    unfolding losing_at ahead
+    losing-found v f =
+        let t = found_some n failing_there v f in
+        rw (a_loses t.1, lt-ltb a 16 (let k = low_lt 16 left h z in omega arith), t.0)
 
-    pub losing_on : n ≤ v → (left' : ℕ) → left' ≡ rest left → first_losing universal index rows x n m d w ≡ first_losing universal index rows x n m left' w
+    pub losing_on : None ≡ found n failing_there → (left' : ℕ) → left' ≡ rest left → first_losing A x n m d w ≡ first_losing A x n m left' w
     unfolding first_losing losing
-    losing_on l left' e = p ∙ first_on 16 16 left h z (λ a. ltb (first_failing universal index rows x a n (bit m) w) n) (rw (sym s, sym f) (le-ltb v n l)) ∙ rw e
+    losing_on f left' e = p ∙ first_on 16 16 left h z (λ a. ltb (first_failing A x a n (bit m) w) n) (rw (sym s) (le-ltb failing_there n (found_none n failing_there f))) ∙ rw e
+
+-- What look ahead names is below 16, and where it names nothing none is.
+pub ahead_some : (value variable : ℕ) (a : Ahead) → Some a ≡ ahead value variable → (a.value ≡ value) × (a.variable ≡ variable) × (value < 16)
+unfolding ahead
+ahead_some value variable a e = by_lt value 16
+    (λ l. let q : Some a ≡ Some record { value = value; variable = variable } = rw (lt-ltb value 16 l) at e in (cc, cc, l))
+    (λ l. let q : Some a ≡ None = rw (le-ltb value 16 l) at e in absurd (cc))
+
+pub ahead_none : (value variable : ℕ) → None ≡ ahead value variable → 16 ≤ value
+unfolding ahead
+ahead_none value variable e = by_lt value 16
+    (λ l. let q : None ≡ Some record { value = value; variable = variable } = rw (lt-ltb value 16 l) at e in absurd (cc))
+    (λ l. l)

@@ -1,11 +1,13 @@
 -- A value's row against the mask of a later variable: the check of one variable, and of a mask of variables.
-use Rattle.std.specs.Prelude.{◌≡◌, Bool, false, cond, not, ◌&&◌, List, ℕ, ◌<◌, eqb, ltb, get_or, set}
+use Rattle.std.specs.Prelude.{◌≡◌, Bool, false, cond, not, ◌&&◌, List, ℕ, ◌<◌, eqb, ltb, get_or, set, Option, Some, None}
 use Rattle.std.specs.Int.Bits.{bit_and, bit_or}
 use Rattle.mask.specs.Range.{first}
 use Rattle.mask.specs.Mask.{bit, mask_of}
 use Rattle.game.specs.Lists.{list_of}
 use Rattle.solver_arrays.specs.Arrays.{row_in}
 use Rattle.solver_arrays.specs.Words.{reason_in, put_reason, holding}
+use Rattle.solver_arrays.specs.declared.arrays.Arrays.{Arrays}
+use Rattle.rule_forward.specs.declared.steps.Ahead.{Ahead}
 
 -- The members of the mask m after x and below n.
 unfoldable pub later_of : ℕ → ℕ → ℕ → ℕ
@@ -26,16 +28,16 @@ reason_of q m k r = cond (eqb k m) r (bit_or r q)
 unfoldable pub checked_at : Bool → ℕ → ℕ → List ℕ → ℕ → List ℕ
 checked_at u r q w j = put_reason (set w j (left_of u r (get_or w j 0))) j (reason_of q (get_or w j 0) (left_of u r (get_or w j 0)) (reason_in w j))
 
-module _ (universal : ℕ) (index rows : List ℕ) (x a : ℕ) where
+module _ (A : Arrays) (x a : ℕ) where
   -- The check of value a of x at variable j, over the words w: the mask that it leaves, the reason, and whether it fails.
   unfoldable pub mask_at : List ℕ → ℕ → ℕ
-  mask_at w j = left_of (bit universal j) (row_in index rows x a j) (get_or w j 0)
+  mask_at w j = left_of (bit A.universal j) (row_in A x a j) (get_or w j 0)
 
   unfoldable pub why_at : ℕ → List ℕ → ℕ → ℕ
   why_at q w j = reason_of q (get_or w j 0) (mask_at w j) (reason_in w j)
 
   unfoldable pub failing : List ℕ → ℕ → Bool
-  failing w j = fails_at (bit universal j) (row_in index rows x a j) (get_or w j 0)
+  failing w j = fails_at (bit A.universal j) (row_in A x a j) (get_or w j 0)
 
   -- The words with the variables checked that d holds; the first of them that fails, or n.
   unfoldable pub checked_words : ℕ → ℕ → (ℕ → Bool) → List ℕ → List ℕ
@@ -48,14 +50,18 @@ module _ (universal : ℕ) (index rows : List ℕ) (x a : ℕ) where
 abbrev pub Unmoved : ℕ → List ℕ → List ℕ → Type 0
 Unmoved m w w' = (k : ℕ) → k < 32 → bit m k ≡ false → get_or w' k 0 ≡ get_or w k 0
 
-module _ (universal : ℕ) (index rows : List ℕ) (x n m : ℕ) where
+module _ (A : Arrays) (x n m : ℕ) where
   -- The check of value a of x against the members of m is a loss; the first value of the mask d that loses so, or 16.
   unfoldable pub losing : List ℕ → ℕ → Bool
-  losing w a = ltb (first_failing universal index rows x a n (bit m) w) n
+  losing w a = ltb (first_failing A x a n (bit m) w) n
 
   unfoldable pub first_losing : ℕ → List ℕ → ℕ
   first_losing d w = first 16 (λ a. bit d a && losing w a)
 
   -- The variable at which that value fails, or n.
   unfoldable pub losing_at : ℕ → List ℕ → ℕ
-  losing_at d w = cond (ltb (first_losing d w) 16) (first_failing universal index rows x (first_losing d w) n (bit m) w) n
+  losing_at d w = cond (ltb (first_losing d w) 16) (first_failing A x (first_losing d w) n (bit m) w) n
+
+-- A losing value below 16 with the variable that its loss names, or none.
+unfoldable pub ahead : ℕ → ℕ → Option Ahead
+ahead value variable = cond (ltb value 16) (Some record { value = value; variable = variable }) None

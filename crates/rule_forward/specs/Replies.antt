@@ -1,13 +1,17 @@
 -- What the functions of rules 2 and 3 reply and leave, in the words of the game.
-use Rattle.std.specs.Prelude.{◌≡◌, false, cond, List, ℕ, ◌<◌, ltb, get_or}
+use Rattle.std.specs.Prelude.{◌≡◌, false, cond, List, ℕ, ◌<◌, ltb, get_or, Option}
 use Rattle.std.specs.Int.Bits.{bit_or}
 use Rattle.mask.specs.Mask.{bit}
+use Rattle.mask.specs.Found.{found}
 use Rattle.game.specs.Problem.{Problem}
 use Rattle.game.specs.Forward.{forward_named}
 use Rattle.game.specs.LookAhead.{ahead_named}
 use Rattle.game.specs.Reasons.{explain_forward, neighbours}
 use Rattle.solver_arrays.specs.Arrays.{States}
 use Rattle.solver_arrays.specs.Words.{list_in, why_in, reason_in, holding}
+use Rattle.solver_arrays.specs.declared.arrays.Arrays.{Arrays}
+use Rattle.rule_forward.specs.declared.steps.Ahead.{Ahead}
+use Rattle.rule_forward.specs.OneValue.{ahead}
 
 module _ (P : Problem) (n : ℕ) where
   -- The words w after the forward check of value a of x.
@@ -30,15 +34,15 @@ abbrev pub UnmovedBut : ℕ → ℕ → List ℕ → List ℕ → Type 0
 UnmovedBut x m w w' = (k : ℕ) → k < 32 → ¬ (k ≡ x) → bit m k ≡ false → get_or w' k 0 ≡ get_or w k 0
 
 -- The conflict set of a loss at x, in the check of k or in look ahead at k, is r.
-abbrev pub ForwardConflict : (near : List ℕ) (k x : ℕ) (w : List ℕ) (r : ℕ) → Type 0
-ForwardConflict near k x w r = (P : Problem) (n universal : ℕ) (index rows : List ℕ) → States P n universal near index rows → x < n → r ≡ conflict_in P k x w
+abbrev pub ForwardConflict : (A : Arrays) (k x : ℕ) (w : List ℕ) (r : ℕ) → Type 0
+ForwardConflict A k x w r = (P : Problem) → States P A.n A → x < A.n → r ≡ conflict_in P k x w
 
 -- For every problem that the arrays state.
-module _ (n universal : ℕ) (near index rows : List ℕ) where
+module _ (A : Arrays) where
   -- The forward check of value a of x turns the words w into w' and replies r.
-  abbrev pub Forwarded : (x a : ℕ) (w w' : List ℕ) (r : ℕ) → Type 0
-  Forwarded x a w w' r = (P : Problem) → States P n universal near index rows → (r ≡ forward_named P x a (list_in n w)) × (w' ≡ after_forward P n x a w)
+  abbrev pub Forwarded : (x a : ℕ) (w w' : List ℕ) (r : Option ℕ) → Type 0
+  Forwarded x a w w' r = (P : Problem) → States P A.n A → (r ≡ found A.n (forward_named P x a (list_in A.n w))) × (w' ≡ after_forward P A.n x a w)
 
-  -- Look ahead at i over the words w replies this value and variable.
-  abbrev pub LookedAhead : (i : ℕ) (w : List ℕ) (value variable : ℕ) → Type 0
-  LookedAhead i w value variable = (P : Problem) → States P n universal near index rows → (value ≡ ahead_value P n i w) × (variable ≡ ahead_variable P n i w)
+  -- Look ahead at i over the words w replies r.
+  abbrev pub LookedAhead : (i : ℕ) (w : List ℕ) (r : Option Ahead) → Type 0
+  LookedAhead i w r = (P : Problem) → States P A.n A → r ≡ ahead (ahead_value P A.n i w) (ahead_variable P A.n i w)

@@ -2,11 +2,12 @@
 ghost use Rattle.std.specs.Prelude.{◌≡◌, cond, ◌&&◌, ℕ, ◌^◌, ◌≤◌, ◌<◌, T, eqb, ltb, length, get_or};
 ghost use Rattle.std.specs.Int.Bits.{bit_or};
 ghost use Rattle.mask.specs.Mask.{bit};
-ghost use Rattle.solver_arrays.specs.Arrays.{row_in, InRange};
-ghost use Rattle.rule_forward.specs.OneValue.{later_of, left_of, fails_at, checked_at, failing, checked_words, first_failing, Unmoved, first_losing, losing_at};
+ghost use Rattle.mask.specs.Found.{found};
+ghost use Rattle.solver_arrays.specs.Arrays.{row_in};
+ghost use Rattle.rule_forward.specs.OneValue.{later_of, left_of, fails_at, checked_at, failing, checked_words, first_failing, Unmoved, first_losing, losing_at, ahead};
 
-use mask::{contains_32, lowest, lowest_32, rest_of, rest_of_32, single_32};
-use solver_arrays::{Index, Rows, add_reason, row};
+use mask::{contains, members_of, single};
+use solver_arrays::{Arrays, add_reason};
 
 // The members of m after x and below n.
 pub fn later(m: u32, x: usize, n: usize) -> u32
@@ -44,38 +45,21 @@ fn keep_at(u: bool, r: u16, q: u32, j: usize, w: &mut [u16])
     }
 }
 
-fn fails(
-    index: &Index,
-    rows: &Rows,
-    universal: u32,
-    x: usize,
-    a: usize,
-    j: usize,
-    w: &[u16],
-) -> bool
-    requires { (x < 32) × (a < 16) × (j < 32) × (96 ≤ length w.now) × InRange index.now }
-    ensures { result ≡ failing universal index.now rows.now x a w.now j }
+fn fails(arrays: &Arrays, x: usize, a: usize, j: usize, w: &[u16]) -> bool
+    requires { (x < 32) × (a < 16) × (j < 32) × (96 ≤ length w.now) }
+    ensures { result ≡ failing arrays.now x a w.now j }
 {
-    fails_at(contains_32(universal, j), row(index, rows, x, a, j), w[j])
+    fails_at(contains(arrays.universal, j), arrays.row(x, a, j), w[j])
 }
 
 // The check of value a of x at variable j: whether it fails there.
-fn check_at(
-    index: &Index,
-    rows: &Rows,
-    universal: u32,
-    x: usize,
-    a: usize,
-    q: u32,
-    j: usize,
-    w: &mut [u16],
-) -> bool
-    requires { (x < 32) × (a < 16) × (j < 32) × (96 ≤ length w.old) × InRange index.now }
-    ensures { (result ≡ failing universal index.now rows.now x a w.old j)
-        × (w.new ≡ checked_at (bit universal j) (row_in index.now rows.now x a j) q w.old j) }
+fn check_at(arrays: &Arrays, x: usize, a: usize, q: u32, j: usize, w: &mut [u16]) -> bool
+    requires { (x < 32) × (a < 16) × (j < 32) × (96 ≤ length w.old) }
+    ensures { (result ≡ failing arrays.now x a w.old j)
+        × (w.new ≡ checked_at (bit arrays.now.universal j) (row_in arrays.now x a j) q w.old j) }
 {
-    let u = contains_32(universal, j);
-    let r = row(index, rows, x, a, j);
+    let u = contains(arrays.universal, j);
+    let r = arrays.row(x, a, j);
     let lost = fails_at(u, r, w[j]);
     keep_at(u, r, q, j, w);
     lost
@@ -84,10 +68,7 @@ fn check_at(
 fn least(lost: bool, j: usize, named: usize) -> usize
     ensures { result ≡ cond (lost && ltb j named) j named }
 {
-    if !lost {
-        return named;
-    }
-    if j < named { j } else { named }
+    if lost { named.min(j) } else { named }
 }
 
 // The mask m, with j in it where its domain changed.
@@ -95,82 +76,44 @@ fn noted(m: u32, j: usize, old: u16, new: u16) -> u32
     requires { j < 32 }
     ensures { result ≡ cond (eqb new old) m (bit_or m (2 ^ j)) }
 {
-    if new == old {
-        return m;
-    }
-    m | single_32(j)
+    if new == old { m } else { m | single::<u32>(j) }
 }
 
-// What a check finds: the lowest variable where it fails, or n; and the variables that lost values.
+// What a check finds: the lowest variable where it fails, or none; and the variables that lost values.
 #[derive(Clone, Copy)]
 pub struct Checked {
-    pub named: usize,
+    pub named: Option<usize>,
     pub narrowed: u32,
 }
 
 // The check at each member of m.
-pub fn check_each(
-    index: &Index,
-    rows: &Rows,
-    n: usize,
-    universal: u32,
-    x: usize,
-    a: usize,
-    q: u32,
-    m: u32,
-    w: &mut [u16],
-) -> Checked
-    requires { (n ≤ 32) × (x < 32) × (a < 16) × (96 ≤ length w.old) × InRange index.now × ((k : ℕ) → T (bit m k) → k < n) }
-    ensures { (result.named ≡ first_failing universal index.now rows.now x a n (bit m) w.old)
-        × (w.new ≡ checked_words universal index.now rows.now x a n q (bit m) w.old)
+pub fn check_each(arrays: &Arrays, x: usize, a: usize, q: u32, m: u32, w: &mut [u16]) -> Checked
+    requires { (x < 32) × (a < 16) × (96 ≤ length w.old) × ((k : ℕ) → T (bit m k) → k < arrays.now.n) }
+    ensures { (result.named ≡ found arrays.now.n (first_failing arrays.now x a arrays.now.n (bit m) w.old))
+        × (w.new ≡ checked_words arrays.now x a arrays.now.n q (bit m) w.old)
         × Unmoved result.narrowed w.old w.new }
 {
+    let n = arrays.n;
     let mut named = n;
     let mut narrowed: u32 = 0;
-    let mut left = m;
-    while left != 0 {
-        let j = lowest_32(left) as usize;
+    for j in members_of(m) {
         let old = w[j];
-        let lost = check_at(index, rows, universal, x, a, q, j, w);
+        let lost = check_at(arrays, x, a, q, j, w);
         narrowed = noted(narrowed, j, old, w[j]);
         named = least(lost, j, named);
-        left = rest_of_32(left);
     }
     Checked {
-        named: named,
-        narrowed: narrowed,
+        named: if named < n { Some(named) } else { None },
+        narrowed,
     }
 }
 
-// The lowest member of m where the check fails, or n; nothing is written.
-pub fn failing_from(
-    index: &Index,
-    rows: &Rows,
-    n: usize,
-    universal: u32,
-    x: usize,
-    a: usize,
-    m: u32,
-    w: &[u16],
-) -> usize
-    requires { (n ≤ 32) × (x < 32) × (a < 16) × (96 ≤ length w.now) × InRange index.now × ((k : ℕ) → T (bit m k) → k < n) }
-    ensures { result ≡ first_failing universal index.now rows.now x a n (bit m) w.now }
+// The lowest member of m where the check fails; nothing is written.
+pub fn failing_from(arrays: &Arrays, x: usize, a: usize, m: u32, w: &[u16]) -> Option<usize>
+    requires { (x < 32) × (a < 16) × (96 ≤ length w.now) × ((k : ℕ) → T (bit m k) → k < arrays.now.n) }
+    ensures { result ≡ found arrays.now.n (first_failing arrays.now x a arrays.now.n (bit m) w.now) }
 {
-    let mut left = m;
-    while left != 0 {
-        let j = lowest_32(left) as usize;
-        if fails(index, rows, universal, x, a, j, w) {
-            return j;
-        }
-        left = rest_of_32(left);
-    }
-    n
-}
-
-fn only(u: bool, m: u16) -> u16
-    ensures { result ≡ cond u m 0 }
-{
-    if u { m } else { 0 }
+    members_of(m).find(|j| fails(arrays, x, a, *j, w))
 }
 
 // The domain of variable i where it is universal, else nothing.
@@ -178,7 +121,7 @@ pub fn tried(universal: u32, i: usize, w: &[u16]) -> u16
     requires { (i < 32) × (96 ≤ length w.now) }
     ensures { result ≡ cond (bit universal i) (get_or w.now i 0) 0 }
 {
-    only(contains_32(universal, i), w[i])
+    if contains(universal, i) { w[i] } else { 0 }
 }
 
 // A value of a universal variable whose forward check is a loss, and the variable that this loss names.
@@ -189,34 +132,15 @@ pub struct Ahead {
 }
 
 // The lowest value of the mask d whose check against the members of m is a loss, and the variable that this loss names.
-pub fn losing_from(
-    index: &Index,
-    rows: &Rows,
-    n: usize,
-    universal: u32,
-    x: usize,
-    m: u32,
-    d: u16,
-    w: &[u16],
-) -> Ahead
-    requires { (n ≤ 32) × (x < 32) × (96 ≤ length w.now) × InRange index.now × ((k : ℕ) → T (bit m k) → k < n) }
-    ensures { (result.value ≡ first_losing universal index.now rows.now x n m d w.now)
-        × (result.variable ≡ losing_at universal index.now rows.now x n m d w.now) }
+pub fn losing_from(arrays: &Arrays, x: usize, m: u32, d: u16, w: &[u16]) -> Option<Ahead>
+    requires { (x < 32) × (96 ≤ length w.now) × ((k : ℕ) → T (bit m k) → k < arrays.now.n) }
+    ensures { result ≡ ahead (first_losing arrays.now x arrays.now.n m d w.now)
+        (losing_at arrays.now x arrays.now.n m d w.now) }
 {
-    let mut left = d;
-    while left != 0 {
-        let a = lowest(left) as usize;
-        let v = failing_from(index, rows, n, universal, x, a, m, w);
-        if v < n {
-            return Ahead {
-                value: a,
-                variable: v,
-            };
+    for value in members_of(d) {
+        if let Some(variable) = failing_from(arrays, x, value, m, w) {
+            return Some(Ahead { value, variable });
         }
-        left = rest_of(left);
     }
-    Ahead {
-        value: 16,
-        variable: n,
-    }
+    None
 }

@@ -1,8 +1,8 @@
--- What is tested of a lent list, and lists copied.
-use Rattle.std.specs.Prelude.{Bool, true, not, ◌&&◌, List, ℕ, zero, suc, eqb, ltb, get_or, length, set}
+-- What is tested of a lent list, and the words of a turn that it goes into.
+use Rattle.std.specs.Prelude.{Bool, true, not, ◌&&◌, List, ◌++◌, ℕ, ◌-◌, eqb, ltb, get_or, length, replicate}
 use Rattle.mask.specs.Range.{each}
-use Rattle.refusal.specs.declared.Verdict.{Verdict}
-use Rattle.refusal.specs.Chain.{◌then◌, need}
+use Rattle.refusal.specs.declared.reason.Reason.TheVariants.{Value, Variable, Lent}
+use Rattle.refusal.specs.Chain.{Test, ◌then◌, need}
 use Rattle.game.specs.Lists.{domains, within}
 
 -- The mask m may be lent where the file's is d; so may mask i of the list l, where the file's are D.
@@ -21,16 +21,15 @@ unfoldable pub value_in : List ℕ → ℕ → ℕ → Bool
 value_in l x a = ltb a 16 && domains l x a
 
 -- The tests of a call, where `fits` says whether the list may be lent.
-unfoldable pub list_test : Bool → Verdict
-list_test fits = need fits 13 0
+unfoldable pub list_test : Bool → Test
+list_test fits = need fits Lent
 
-unfoldable pub variable_test : Bool → ℕ → ℕ → Verdict
-variable_test fits n x = list_test fits then need (ltb x n) 11 0
+unfoldable pub variable_test : Bool → ℕ → ℕ → Test
+variable_test fits n x = list_test fits then need (ltb x n) Variable
 
-unfoldable pub value_test : Bool → ℕ → List ℕ → ℕ → ℕ → Verdict
-value_test fits n l x a = variable_test fits n x then need (value_in l x a) 10 0
+unfoldable pub value_test : Bool → ℕ → List ℕ → ℕ → ℕ → Test
+value_test fits n l x a = variable_test fits n x then need (value_in l x a) Value
 
--- The list `to` with the first k elements of `from` in their places.
-unfoldable pub copied : List ℕ → List ℕ → ℕ → List ℕ
-copied from to zero = to
-copied from to (suc k) = set (copied from to k) k (get_or from k 0)
+-- The words of a turn with the list l in front, and zero behind it.
+unfoldable pub words_for : List ℕ → List ℕ
+words_for l = l ++ replicate (128 - length l) 0

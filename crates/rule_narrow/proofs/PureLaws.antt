@@ -21,6 +21,7 @@ use Rattle.solver_arrays.specs.Words.{list_in}
 use Rattle.solver_arrays.proofs.RowLaws.{common_lt}
 use Rattle.solver_arrays.proofs.Stated.{domain_of_lem, neighbours}
 use Rattle.rule_narrow.specs.Narrow.{common_to_all}
+use Rattle.solver_arrays.specs.declared.arrays.Arrays.{Arrays}
 
 -- Every value passes.
 full : mask_of 16 (λ a. true) ≡ 65535
@@ -28,61 +29,61 @@ unfolding mask_of
 full = refl
 
 -- Value a of x goes with every value of j.
-abbrev goes : List ℕ → List ℕ → ℕ → List ℕ → ℕ → ℕ → Bool
-goes index rows x w a j = bit (common_in index rows j (get_or w j 0) x) a
+abbrev goes : Arrays → ℕ → List ℕ → ℕ → ℕ → Bool
+goes A x w a j = bit (common_in A j (get_or w j 0) x) a
 
-module _ (index rows : List ℕ) (x : ℕ) (w : List ℕ) where
+module _ (A : Arrays) (x : ℕ) (w : List ℕ) where
   -- No variable: every value goes.
-  common_to_none : common_to_all index rows x w 0 ≡ 65535
+  common_to_none : common_to_all A x w 0 ≡ 65535
   unfolding common_to_all
   common_to_none =
-      mask_of_same 16 (λ a. each 32 (bit 0) (goes index rows x w a)) (λ a. true)
-      (λ a l. holds (each_in 32 (bit 0) (goes index rows x w a) λ j h t. absurd (clash (bit_of_zero j) t)))
+      mask_of_same 16 (λ a. each 32 (bit 0) (goes A x w a)) (λ a. true)
+      (λ a l. holds (each_in 32 (bit 0) (goes A x w a) λ j h t. absurd (clash (bit_of_zero j) t)))
       ∙ full
 
   -- The lowest variable, and the rest.
   common_to_rest :
       (m : ℕ) → m < 2 ^ 32 → ¬ (m ≡ 0)
-      → common_to_all index rows x w m ≡ bit_and (common_in index rows (first 32 (bit m)) (get_or w (first 32 (bit m)) 0) x) (common_to_all index rows x w (rest m))
+      → common_to_all A x w m ≡ bit_and (common_in A (first 32 (bit m)) (get_or w (first 32 (bit m)) 0) x) (common_to_all A x w (rest m))
   unfolding common_to_all
   common_to_rest m h z =
       let j = first 32 (bit m) in
-      ap (mask_of 16) (fun_ext λ a. each-rest 32 m h z (goes index rows x w a))
-      ∙ sym (mask_of_and 16 (λ a. goes index rows x w a j) (λ a. each 32 (bit (rest m)) (goes index rows x w a)))
-      ∙ ap (λ y. bit_and y (mask_of 16 (λ a. each 32 (bit (rest m)) (goes index rows x w a))))
-      (sym (mask_of_bits 16 _ (common_lt index rows j x (get_or w j 0))))
+      ap (mask_of 16) (fun_ext λ a. each-rest 32 m h z (goes A x w a))
+      ∙ sym (mask_of_and 16 (λ a. goes A x w a j) (λ a. each 32 (bit (rest m)) (goes A x w a)))
+      ∙ ap (λ y. bit_and y (mask_of 16 (λ a. each 32 (bit (rest m)) (goes A x w a))))
+      (sym (mask_of_bits 16 _ (common_lt A j x (get_or w j 0))))
 
   -- One more neighbour; nothing is left; no more neighbours.
   pub common_next :
-      (out m all j r m' : ℕ) → out < 2 ^ 16 → m < 2 ^ 32 → ¬ (m ≡ 0) → j ≡ first 32 (bit m) → r ≡ common_in index rows j (get_or w j 0) x → m' ≡ rest m
-      → all ≡ bit_and out (common_to_all index rows x w m) → all ≡ bit_and (bit_and out r) (common_to_all index rows x w m')
+      (out m all j r m' : ℕ) → out < 2 ^ 16 → m < 2 ^ 32 → ¬ (m ≡ 0) → j ≡ first 32 (bit m) → r ≡ common_in A j (get_or w j 0) x → m' ≡ rest m
+      → all ≡ bit_and out (common_to_all A x w m) → all ≡ bit_and (bit_and out r) (common_to_all A x w m')
   common_next out m all j r m' o h z f g q e =
       e ∙ ap (bit_and out) (common_to_rest m h z) ∙ sym (and_assoc 16 out _ _ o)
-      ∙ ap₂ (λ y v. bit_and (bit_and out y) (common_to_all index rows x w v)) (sym (g ∙ ap (λ i. common_in index rows i (get_or w i 0) x) f)) (sym q)
+      ∙ ap₂ (λ y v. bit_and (bit_and out y) (common_to_all A x w v)) (sym (g ∙ ap (λ i. common_in A i (get_or w i 0) x) f)) (sym q)
 
-  pub common_stop : (out m all : ℕ) → out ≡ 0 → all ≡ bit_and out (common_to_all index rows x w m) → 0 ≡ all
-  common_stop out m all z e = sym (e ∙ ap (λ y. bit_and y (common_to_all index rows x w m)) z ∙ and_zero_l (common_to_all index rows x w m))
+  pub common_stop : (out m all : ℕ) → out ≡ 0 → all ≡ bit_and out (common_to_all A x w m) → 0 ≡ all
+  common_stop out m all z e = sym (e ∙ ap (λ y. bit_and y (common_to_all A x w m)) z ∙ and_zero_l (common_to_all A x w m))
 
-  pub common_end : (out m all : ℕ) → out < 2 ^ 16 → m ≡ 0 → all ≡ bit_and out (common_to_all index rows x w m) → out ≡ all
-  common_end out m all h z e = sym (e ∙ ap (λ y. bit_and out (common_to_all index rows x w y)) z ∙ ap (bit_and out) common_to_none ∙ and_mask out 16 ∙ mod-eq_of_lt h)
+  pub common_end : (out m all : ℕ) → out < 2 ^ 16 → m ≡ 0 → all ≡ bit_and out (common_to_all A x w m) → out ≡ all
+  common_end out m all h z e = sym (e ∙ ap (λ y. bit_and out (common_to_all A x w y)) z ∙ ap (bit_and out) common_to_none ∙ and_mask out 16 ∙ mod-eq_of_lt h)
 
-module _ (P : Problem) (n u : ℕ) (near index rows : List ℕ) (S : States P n u near index rows) (x : ℕ) (l : x < n) (w : List ℕ) (small : get_or w x 0 < 2 ^ 16) where
+module _ (P : Problem) (n : ℕ) (A : Arrays) (S : States P n A) (x : ℕ) (l : x < n) (w : List ℕ) (small : get_or w x 0 < 2 ^ 16) where
   -- A value goes with the whole domain of j.
-  goes_with : (a j : ℕ) → a < 16 → j < n → each 16 (domains (list_in n w) j) (λ b. P.compatible x a j b) ≡ goes index rows x w a j
+  goes_with : (a j : ℕ) → a < 16 → j < n → each 16 (domains (list_in n w) j) (λ b. P.compatible x a j b) ≡ goes A x w a j
   unfolding common_in
   goes_with a j h k =
       ap (λ d. each 16 d (λ b. P.compatible x a j b)) (domain_of_lem n w j k)
-      ∙ each_eq 16 (bit (get_or w j 0)) (λ b. P.compatible x a j b) (λ b. bit (row_in index rows j b x) a) (λ b q. P.symmetric x a j b ∙ S.row j b x a k q l h)
-      ∙ sym (bit-mask_of 16 (λ a. each 16 (bit (get_or w j 0)) (λ b. bit (row_in index rows j b x) a)) a h)
+      ∙ each_eq 16 (bit (get_or w j 0)) (λ b. P.compatible x a j b) (λ b. bit (row_in A j b x) a) (λ b q. P.symmetric x a j b ∙ S.row j b x a k q l h)
+      ∙ sym (bit-mask_of 16 (λ a. each 16 (bit (get_or w j 0)) (λ b. bit (row_in A j b x) a)) a h)
 
   -- The meet of the domain with what every neighbour leaves is rule 4's reply.
-  pub pure_stated : bit_and (get_or w x 0) (common_to_all index rows x w (get_or near x 0)) ≡ pure P x (list_in n w)
+  pub pure_stated : bit_and (get_or w x 0) (common_to_all A x w (get_or A.near x 0)) ≡ pure P x (list_in n w)
   unfolding common_to_all pure is_pure
   pure_stated =
-      ap (λ y. bit_and y (mask_of 16 (λ a. each 32 (bit (get_or near x 0)) (goes index rows x w a)))) (mask_of_bits 16 _ small)
-      ∙ mask_of_and 16 (bit (get_or w x 0)) (λ a. each 32 (bit (get_or near x 0)) (goes index rows x w a))
+      ap (λ y. bit_and y (mask_of 16 (λ a. each 32 (bit (get_or A.near x 0)) (goes A x w a)))) (mask_of_bits 16 _ small)
+      ∙ mask_of_and 16 (bit (get_or w x 0)) (λ a. each 32 (bit (get_or A.near x 0)) (goes A x w a))
       ∙ mask_of_same 16 _ _ (λ a h.
       sym (ap₂ ◌&&◌ (ap (λ d. d a) (domain_of_lem n w x l))
-      (neighbours P n u near index rows S x l (λ j. each 16 (domains (list_in n w) j) (λ b. P.compatible x a j b)) (goes index rows x w a)
+      (neighbours P n A S x l (λ j. each 16 (domains (list_in n w) j) (λ b. P.compatible x a j b)) (goes A x w a)
       (λ j k. goes_with a j h k)
       (λ j f. each_in 16 (domains (list_in n w) j) (λ b. P.compatible x a j b) λ b q t. P.free x j f a b))))

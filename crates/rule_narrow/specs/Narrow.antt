@@ -12,20 +12,21 @@ use Rattle.game.specs.Turn.{narrow_pure, narrow_interchangeable}
 use Rattle.game.specs.Search.{narrow_next}
 use Rattle.solver_arrays.specs.Arrays.{row_in, common_in, States}
 use Rattle.solver_arrays.specs.Words.{list_in, why_in, holding}
+use Rattle.solver_arrays.specs.declared.arrays.Arrays.{Arrays}
 
-module _ (index rows : List ℕ) (x : ℕ) (w : List ℕ) where
+module _ (A : Arrays) (x : ℕ) (w : List ℕ) where
   -- The values of x that go with every value, in the words w, of each variable of the mask m.
   unfoldable pub common_to_all : ℕ → ℕ
-  common_to_all m = mask_of 16 (λ a. each 32 (bit m) (λ j. bit (common_in index rows j (get_or w j 0) x) a))
+  common_to_all m = mask_of 16 (λ a. each 32 (bit m) (λ j. bit (common_in A j (get_or w j 0) x) a))
 
   -- Values a and b of x go with the same values of j.
   unfoldable pub same_row : ℕ → ℕ → ℕ → Bool
-  same_row a b j = eqb (bit_and (row_in index rows x a j) (get_or w j 0)) (bit_and (row_in index rows x b j) (get_or w j 0))
+  same_row a b j = eqb (bit_and (row_in A x a j) (get_or w j 0)) (bit_and (row_in A x b j) (get_or w j 0))
 
-module _ (near index rows : List ℕ) (x : ℕ) (w : List ℕ) where
+module _ (A : Arrays) (x : ℕ) (w : List ℕ) where
   -- They do so for each neighbour j: they are interchangeable.
   unfoldable pub interchange_in : ℕ → ℕ → Bool
-  interchange_in a b = each 32 (bit (get_or near x 0)) (same_row index rows x w a b)
+  interchange_in a b = each 32 (bit (get_or A.near x 0)) (same_row A x w a b)
 
   -- Some value of the mask m is interchangeable with a.
   unfoldable pub some_interchange : ℕ → ℕ → Bool
@@ -40,12 +41,12 @@ module _ (near index rows : List ℕ) (x : ℕ) (w : List ℕ) where
   representatives_in m = mask_of 16 (λ a. let k = is_representative a in bit m a && k)
 
 -- The mask r is what rule 4 replies at x, in every problem that the arrays state.
-abbrev pub RepliesPure : List ℕ → List ℕ → List ℕ → ℕ → ℕ → List ℕ → ℕ → Type 0
-RepliesPure near index rows n x w r = (P : Problem) (u : ℕ) → States P n u near index rows → r ≡ pure P x (list_in n w)
+abbrev pub RepliesPure : (A : Arrays) (x : ℕ) (w : List ℕ) (r : ℕ) → Type 0
+RepliesPure A x w r = (P : Problem) → States P A.n A → r ≡ pure P x (list_in A.n w)
 
 -- The mask r is what rule 5 replies there.
-abbrev pub RepliesInterchangeable : List ℕ → List ℕ → List ℕ → ℕ → ℕ → List ℕ → ℕ → Type 0
-RepliesInterchangeable near index rows n x w r = (P : Problem) (u : ℕ) → States P n u near index rows → r ≡ interchangeable P x (list_in n w)
+abbrev pub RepliesInterchangeable : (A : Arrays) (x : ℕ) (w : List ℕ) (r : ℕ) → Type 0
+RepliesInterchangeable A x w r = (P : Problem) → States P A.n A → r ≡ interchangeable P x (list_in A.n w)
 
 -- The mask r is the narrowing that rule 4 names, at any variable with these pure values, this domain and this side.
 abbrev pub Purges : ℕ → ℕ → Bool → ℕ → Type 0
@@ -53,13 +54,13 @@ Purges pureOnes domain side r =
     (P : Problem) (x : ℕ) (l : List ℕ) → pureOnes ≡ pure P x l → domain ≡ get_or l x 0 → side ≡ P.universal x → r ≡ mask_of 16 (purged P (domains l) x)
 
 -- The mask r is the domain of x that rule 4, and rule 5, leaves where it is used.
-abbrev pub LeavesPure : List ℕ → List ℕ → List ℕ → ℕ → ℕ → Bool → ℕ → List ℕ → ℕ → Type 0
-LeavesPure near index rows n u used x w r =
-    (P : Problem) → States P n u near index rows → r ≡ get_or (if_so used (narrow_pure P x) (list_in n w)).list x 0
+abbrev pub LeavesPure : (A : Arrays) (used : Bool) (x : ℕ) (w : List ℕ) (r : ℕ) → Type 0
+LeavesPure A used x w r =
+    (P : Problem) → States P A.n A → r ≡ get_or (if_so used (narrow_pure P x) (list_in A.n w)).list x 0
 
-abbrev pub LeavesInterchangeable : List ℕ → List ℕ → List ℕ → ℕ → Bool → ℕ → List ℕ → ℕ → Type 0
-LeavesInterchangeable near index rows n used x w r =
-    (P : Problem) (u : ℕ) → States P n u near index rows → r ≡ get_or (if_so used (narrow_interchangeable P x) (list_in n w)).list x 0
+abbrev pub LeavesInterchangeable : (A : Arrays) (used : Bool) (x : ℕ) (w : List ℕ) (r : ℕ) → Type 0
+LeavesInterchangeable A used x w r =
+    (P : Problem) → States P A.n A → r ≡ get_or (if_so used (narrow_interchangeable P x) (list_in A.n w)).list x 0
 
 -- The words e are w with the domain of x narrowed by rules 4 and 5, and hold the list that these leave with the reasons of w.
 pub record Narrows (P : Problem) (n S x : ℕ) (w e : List ℕ) : Type 0 where
@@ -68,6 +69,6 @@ pub record Narrows (P : Problem) (n S x : ℕ) (w e : List ℕ) : Type 0 where
   pub holds : e ≡ holding n w (narrow_next P S x (list_in n w)).list (why_in n w)
 
 -- So in every problem that the arrays state, under any rule set that uses rules 4 and 5 as told.
-abbrev pub NarrowsNext : List ℕ → List ℕ → List ℕ → ℕ → ℕ → Bool → Bool → ℕ → List ℕ → List ℕ → Type 0
-NarrowsNext near index rows n u four five x w e =
-    (P : Problem) (S : ℕ) → States P n u near index rows → uses S 4 ≡ four → uses S 5 ≡ five → Narrows P n S x w e
+abbrev pub NarrowsNext : (n : ℕ) (A : Arrays) (four five : Bool) (x : ℕ) (w e : List ℕ) → Type 0
+NarrowsNext n A four five x w e =
+    (P : Problem) (S : ℕ) → States P n A → uses S 4 ≡ four → uses S 5 ≡ five → Narrows P n S x w e

@@ -10,9 +10,13 @@ use Rattle.mask.specs.Mask.{bit}
 use Rattle.mask.specs.Range.{each}
 use Rattle.mask.proofs.Range.{each_out}
 use Rattle.mask.proofs.Bits.{bit_high}
+use Rattle.std.specs.Prelude.{Ok, Err}
+use Rattle.refusal.specs.declared.reason.Reason.{Reason}
+use Rattle.refusal.specs.declared.reason.Reason.TheVariants.{Rules}
+use Rattle.refusal.specs.Reason.{number_of}
 use Rattle.refusal.specs.Told.{replied, refused}
+use Rattle.refusal.proofs.Numbers.{number_one, refused_number}
 use Rattle.rule_set.specs.declared.RuleSet.{RuleSet}
-use Rattle.rule_set.specs.declared.Chosen.TheVariants.{Set, Refused}
 use Rattle.rule_set.specs.RuleSet.{greatest_set, plain_set, usual_set, full_set, is_rule_set, uses, rule_set_of, told}
 
 -- The number of a rule set is 127 at most.
@@ -30,7 +34,7 @@ unfolding rule_set_of
 told_none k e = rw e
 
 -- A set chosen has the number, and a number refused is none.
-pub chosen_set : (s : RuleSet) (k : ℕ) → told (Set s) ≡ rule_set_of k → (is_rule_set k ≡ true) × (s.bits ≡ k)
+pub chosen_set : (s : RuleSet) (k : ℕ) → told (Ok s) ≡ rule_set_of k → (is_rule_set k ≡ true) × (s.bits ≡ k)
 unfolding rule_set_of
 chosen_set s k e = go (is_rule_set k) refl e
   where
@@ -38,13 +42,13 @@ chosen_set s k e = go (is_rule_set k) refl e
     go true q e = (q, cc)
     go false q e = let z : ◌≡◌ {A = ℕ} 0 1 = cc in absurd (omega arith)
 
-pub chosen_none : (e k : ℕ) → told (Refused e) ≡ rule_set_of k → (is_rule_set k ≡ false) × (e ≡ 8)
+pub chosen_none : (e : Reason) (k : ℕ) → told (Err e) ≡ rule_set_of k → (is_rule_set k ≡ false) × (e ≡ Rules)
 unfolding rule_set_of
 chosen_none e k h = go (is_rule_set k) refl h
   where
-    go : (b : Bool) → is_rule_set k ≡ b → refused e ≡ cond b (replied (k ∷ [])) (refused 8) → (is_rule_set k ≡ false) × (e ≡ 8)
+    go : (b : Bool) → is_rule_set k ≡ b → refused (number_of e) ≡ cond b (replied (k ∷ [])) (refused 8) → (is_rule_set k ≡ false) × (e ≡ Rules)
     go true q h = let z : ◌≡◌ {A = ℕ} 0 1 = cc in absurd (omega arith)
-    go false q h = (q, cc)
+    go false q h = (q, number_one e Rules (refused_number h))
 
 -- No rule is used past the bits of a set.
 pub uses_none : (set k : ℕ) → k < 1 → uses set k ≡ false

@@ -1,9 +1,9 @@
 -- Document 01: "Named sets PLAIN (0), USUAL (3) and ALL (127) belong to the rule set itself"; "8 Rules: a rule set above 127".
-use Rattle.std.specs.Prelude.{ℕ, zero, suc, ◌+◌, Bool, false, cond, [], ◌∷◌, leb}
+use Rattle.std.specs.Prelude.{ℕ, zero, suc, ◌+◌, Bool, false, cond, [], ◌∷◌, leb, Result}
 use Rattle.mask.specs.Mask.{bit}
-use Rattle.refusal.specs.Told.{Told, replied, refused}
-use Rattle.rule_set.specs.declared.Chosen.{Chosen}
-use Rattle.rule_set.specs.declared.Chosen.TheVariants.{Set, Refused}
+use Rattle.refusal.specs.declared.reason.Reason.{Reason}
+use Rattle.refusal.specs.Told.{Told, replied, refused, reason_told, told_by}
+use Rattle.rule_set.specs.declared.RuleSet.{RuleSet}
 
 -- "the rule set, 0 to 127".
 abbrev pub greatest_set : ℕ
@@ -32,6 +32,5 @@ full_set = 1 + 2 + 4 + 8 + 16 + 32 + 64
 unfoldable pub rule_set_of : ℕ → Told
 rule_set_of k = cond (is_rule_set k) (replied (k ∷ [])) (refused 8)
 
-abbrev pub told : Chosen → Told
-told (Set s) = replied (s.bits ∷ [])
-told (Refused e) = refused e
+abbrev pub told : Result RuleSet Reason → Told
+told = told_by (λ (s : RuleSet). s.bits ∷ []) reason_told

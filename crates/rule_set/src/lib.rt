@@ -6,18 +6,12 @@ ghost use Rattle.std.specs.Prelude.{◌≡◌, [], ◌∷◌};
 ghost use Rattle.rule_set.specs.RuleSet.{plain_set, usual_set, full_set, is_rule_set, uses, rule_set_of, told};
 
 use mask::contains;
+use refusal::Reason;
 
 // A rule set. Its number is behind the constructor and the constants: other crates make none of their own.
 #[derive(Clone, Copy)]
 pub struct RuleSet {
     bits: u8,
-}
-
-// A rule set, or refused by number.
-#[derive(Clone, Copy)]
-pub enum Chosen {
-    Set(RuleSet),
-    Refused(u8),
 }
 
 // Whether the number is a rule set. For the reader and the writer of files too.
@@ -34,14 +28,14 @@ impl RuleSet {
 
     pub const ALL: RuleSet = RuleSet { bits: 127 };
 
-    // The rule set of a number; 8 for one above 127.
-    pub fn new(number: usize) -> Chosen
+    // The rule set of a number; refused above 127.
+    pub fn new(number: usize) -> Result<RuleSet, Reason>
         ensures { told result ≡ rule_set_of number }
     {
         if is_rule_set(number) {
-            Chosen::Set(RuleSet { bits: number as u8 })
+            Ok(RuleSet { bits: number as u8 })
         } else {
-            Chosen::Refused(8)
+            Err(Reason::Rules)
         }
     }
 

@@ -1,55 +1,43 @@
 -- Pairs, and the values that are left of i, a neighbour at a time.
 use mathlib.Core.Path.{◌≡◌, refl, sym, ap, ap₂, subst, ◌∙◌, fun_ext}
-use mathlib.Core.Bool.{Bool, true, false, cond, ◌&&◌}
+use mathlib.Core.Bool.{Bool, true, false, cond}
 use mathlib.Core.List.{List}
-use Prim.Native.Nat.{ℕ, ◌+◌, ◌%◌, ◌^◌, ◌<◌}
+use Prim.Native.Nat.{ℕ, zero, suc, ◌+◌, ◌%◌, ◌^◌, ◌≤◌, ◌<◌}
 use native.Mathlib.Nat.{mod-eq_of_lt}
-use native.Mathlib.Numerals.{add-one}
+use native.Mathlib.Omega.{arith}
 use lib.Bits.{bit_and, and_mask, and_zero_l}
 use lib.Dec.{T, eqb→eq}
 use lib.ListN.{get_or}
 use borrow.Author.Tests.{eq-eqb, ne_eqb}
+use Rattle.std.specs.List.{list_all, range_with_len}
 use Rattle.mask.specs.Range.{each, first}
 use Rattle.mask.specs.Mask.{bit, mask_of, rest, above}
-use Rattle.mask.proofs.Logic.{same, holds, fails, clash, test, by_eq, and_in, and_out}
+use Rattle.mask.proofs.Logic.{same, holds, clash, test, by_eq, and_in, and_out}
 use Rattle.mask.proofs.Range.{each_in, each_out}
 use Rattle.mask.proofs.Bits.{bit-bit_and, bit_of_zero, bit_single}
 use Rattle.mask.proofs.Masks.{bit-mask_of, mask_of_and, mask_of_same, mask_of_bits, mask_of_lt, and_assoc}
 use Rattle.mask.proofs.Members.{each-rest}
 use Rattle.solver_arrays.specs.Arrays.{row_in, common_in}
 use Rattle.solver_arrays.proofs.RowLaws.{full, common_lt}
-use Rattle.rule_skip.specs.Skip.{box_in, box_goes, goes_above, tested_above, LeafKeeps, boxes_fit, left_by, left_of}
+use Rattle.rule_skip.specs.Skip.{box_in, box_goes, goes_above, tested_above, LeafKeeps, left_by, left_of}
+use Rattle.solver_arrays.specs.declared.arrays.Arrays.{Arrays}
 
--- A test of each member of a mask: the lowest fails; it passes, and the rest is left; none is left.
-module _ (v m : ℕ) (h : m < 2 ^ v) (z : ¬ (m ≡ 0)) (f : ℕ → Bool) (all : Bool) (e : all ≡ each v (bit m) f) (a : ℕ) (p : a ≡ first v (bit m)) where
-  pub each-stop : f a ≡ false → false ≡ all
-  each-stop q = sym (e ∙ each-rest v m h z f ∙ ap (λ b. b && each v (bit (rest m)) f) (ap f (sym p) ∙ q))
+-- A test of each number below n, one after another.
+listed_out : (f : ℕ → Bool) (n a : ℕ) → T (list_all f (range_with_len a n)) → (k : ℕ) → a ≤ k → k < a + n → T (f k)
+listed_out f zero a t k l m = absurd (omega arith)
+listed_out f (suc n) a t k l m =
+    let q = and_out (f a) (list_all f (range_with_len (a + 1) n)) t in
+    by_eq k a (λ e. rw e q.0) (λ e. listed_out f n (a + 1) q.1 k (omega arith) (omega arith))
 
-  pub each_next : f a ≡ true → (m' : ℕ) → m' ≡ rest m → all ≡ each v (bit m') f
-  each_next q m' r = e ∙ each-rest v m h z f ∙ ap₂ (λ b y. b && each v (bit y) f) (ap f (sym p) ∙ q) (sym r)
+listed_in : (f : ℕ → Bool) (n a : ℕ) → ((k : ℕ) → a ≤ k → k < a + n → T (f k)) → T (list_all f (range_with_len a n))
+listed_in f zero a h = tt
+listed_in f (suc n) a h =
+    and_in (f a) (list_all f (range_with_len (a + 1) n)) (h a (omega arith) (omega arith)) (listed_in f n (a + 1) (λ k l m. h k (omega arith) (omega arith)))
 
-pub each_end : (v m : ℕ) → m ≡ 0 → (f : ℕ → Bool) (all : Bool) → all ≡ each v (bit m) f → true ≡ all
-each_end v m z f all e = sym (e ∙ holds (each_in v (bit m) f λ k l t. absurd (clash (ap (λ x. bit x k) z ∙ bit_of_zero k) t)))
-
--- Every pair without i: none is asked yet; those of j do not fit; they do too; all are asked.
-module _ (near index rows : List ℕ) (later i : ℕ) (w : List ℕ) where
-  abbrev pub FitBelow : ℕ → Type 0
-  FitBelow j = boxes_fit near index rows j later i w ≡ true
-
-  pub fit_none : FitBelow 0
-  unfolding boxes_fit each
-  fit_none = refl
-
-  pub fit_stop : (n j : ℕ) → j < n → goes_above near index rows later i w j ≡ false → false ≡ boxes_fit near index rows n later i w
-  unfolding boxes_fit
-  fit_stop n j h e = sym (fails λ t. clash e (each_out n (λ k. true) (goes_above near index rows later i w) t j h tt))
-
-  pub fit_next : (j : ℕ) → FitBelow j → goes_above near index rows later i w j ≡ true → FitBelow (j + 1)
-  unfolding boxes_fit each
-  fit_next j e q = rw (add-one, q) e
-
-  pub fit_end : (n j : ℕ) → j ≡ n → FitBelow j → true ≡ boxes_fit near index rows n later i w
-  fit_end n j e f = sym (ap (λ k. boxes_fit near index rows k later i w) (sym e) ∙ f)
+pub each_listed : (n : ℕ) (f : ℕ → Bool) → list_all f (range_with_len 0 n) ≡ each n (λ j. true) f
+each_listed n f = same (list_all f (range_with_len 0 n)) (each n (λ j. true) f)
+    (λ t. each_in n (λ j. true) f λ k l _. listed_out f n 0 t k (omega arith) (omega arith))
+    (λ t. listed_in f n 0 λ k _ m. each_out n (λ j. true) f t k (omega arith) tt)
 
 -- What a variable may have: i nothing, a later universal variable its mask, any other the leaf's value.
 module _ (later i : ℕ) (w : List ℕ) (j : ℕ) where
@@ -67,21 +55,21 @@ module _ (later i : ℕ) (w : List ℕ) (j : ℕ) where
 
 -- The values that one neighbour leaves.
 pub left_by_is :
-    (index rows : List ℕ) (later i : ℕ) (w : List ℕ) (j m r : ℕ) → m ≡ box_in later i w j → r ≡ common_in index rows j m i → r ≡ left_by index rows later i w j
+    (A : Arrays) (later i : ℕ) (w : List ℕ) (j m r : ℕ) → m ≡ box_in later i w j → r ≡ common_in A j m i → r ≡ left_by A later i w j
 unfolding left_by
-left_by_is index rows later i w j m r e q = q ∙ ap (λ x. common_in index rows j x i) e
+left_by_is A later i w j m r e q = q ∙ ap (λ x. common_in A j x i) e
 
 -- What is tested above j, by its side.
-module _ (near : List ℕ) (later j m : ℕ) (e : m ≡ above (get_or near j 0) j) where
-  pub tested_later : bit later j ≡ true → m ≡ tested_above near later j
+module _ (A : Arrays) (later j m : ℕ) (e : m ≡ above (get_or A.near j 0) j) where
+  pub tested_later : bit later j ≡ true → m ≡ tested_above A later j
   unfolding tested_above
   tested_later t = rw t e
 
-  pub tested_leaf : bit later j ≡ false → bit_and m later ≡ tested_above near later j
+  pub tested_leaf : bit later j ≡ false → bit_and m later ≡ tested_above A later j
   unfolding tested_above
   tested_leaf f = rw f (ap (λ m. bit_and m later) e)
 
-module _ (near index rows : List ℕ) (later i : ℕ) (w : List ℕ) (j : ℕ) (keeps : LeafKeeps near index rows w j) where
+module _ (A : Arrays) (later i : ℕ) (w : List ℕ) (j : ℕ) (keeps : LeafKeeps A w j) where
   -- A variable that is no later universal one has the leaf's value, if any.
   box_single : (k c : ℕ) → bit later k ≡ false → T (bit (box_in later i w k) c) → c ≡ get_or w (96 + k) 0 % 16
   box_single k c e t = by_eq k i
@@ -89,24 +77,24 @@ module _ (near index rows : List ℕ) (later i : ℕ) (w : List ℕ) (j : ℕ) (
       (λ d. eqb→eq c (get_or w (96 + k) 0 % 16) (subst T (ap (λ m. bit m c) (sym (box-leaf later i w k d e)) ∙ bit_single (get_or w (96 + k) 0 % 16) c) t))
 
   -- So two of them go together, as the leaf's values do.
-  pair_goes : bit later j ≡ false → (k : ℕ) → bit later k ≡ false → T (bit (above (get_or near j 0) j) k) → T (box_goes index rows later i w j (box_in later i w j) k)
+  pair_goes : bit later j ≡ false → (k : ℕ) → bit later k ≡ false → T (bit (above (get_or A.near j 0) j) k) → T (box_goes A later i w j (box_in later i w j) k)
   unfolding box_goes common_in
   pair_goes e k f t =
-      each_in 16 (bit (box_in later i w k)) (bit (common_in index rows j (box_in later i w j) k)) λ c l s.
-      subst T (sym (bit-mask_of 16 (λ c. each 16 (bit (box_in later i w j)) (λ a. bit (row_in index rows j a k) c)) c l))
-      (each_in 16 (bit (box_in later i w j)) (λ a. bit (row_in index rows j a k) c) λ a h m.
-      subst (λ x. T (bit (row_in index rows j x k) c)) (sym (box_single j a e m))
-      (subst (λ x. T (bit (row_in index rows j (get_or w (96 + j) 0 % 16) k) x)) (sym (box_single k c f s)) (keeps k t)))
+      each_in 16 (bit (box_in later i w k)) (bit (common_in A j (box_in later i w j) k)) λ c l s.
+      subst T (sym (bit-mask_of 16 (λ c. each 16 (bit (box_in later i w j)) (λ a. bit (row_in A j a k) c)) c l))
+      (each_in 16 (bit (box_in later i w j)) (λ a. bit (row_in A j a k) c) λ a h m.
+      subst (λ x. T (bit (row_in A j x k) c)) (sym (box_single j a e m))
+      (subst (λ x. T (bit (row_in A j (get_or w (96 + j) 0 % 16) k) x)) (sym (box_single k c f s)) (keeps k t)))
 
-  tested_enough : goes_above near index rows later i w j ≡ each 32 (bit (tested_above near later j)) (box_goes index rows later i w j (box_in later i w j))
+  tested_enough : goes_above A later i w j ≡ each 32 (bit (tested_above A later j)) (box_goes A later i w j (box_in later i w j))
   unfolding goes_above tested_above
   tested_enough = go (bit later j) refl
     where
       m : ℕ
-      m = above (get_or near j 0) j
+      m = above (get_or A.near j 0) j
 
       g : ℕ → Bool
-      g = box_goes index rows later i w j (box_in later i w j)
+      g = box_goes A later i w j (box_in later i w j)
 
       go : (b : Bool) → bit later j ≡ b → each 32 (bit m) g ≡ each 32 (bit (cond b m (bit_and m later))) g
       go true e = refl
@@ -116,32 +104,32 @@ module _ (near index rows : List ℕ) (later i : ℕ) (w : List ℕ) (j : ℕ) (
           test (bit later k) (λ r. each_out 32 (bit (bit_and m later)) g t k l (subst T (sym (bit-bit_and m later k)) (and_in (bit m k) (bit later k) s r))) (λ f. pair_goes e k f s))
 
   -- The tested neighbours above j are to be asked.
-  pub goes-start : (m v : ℕ) → m ≡ box_in later i w j → v ≡ tested_above near later j → goes_above near index rows later i w j ≡ each 32 (bit v) (box_goes index rows later i w j m)
-  goes-start m v e q = tested_enough ∙ ap₂ (λ y x. each 32 (bit y) (box_goes index rows later i w j x)) (sym q) (sym e)
+  pub goes-start : (m v : ℕ) → m ≡ box_in later i w j → v ≡ tested_above A later j → goes_above A later i w j ≡ each 32 (bit v) (box_goes A later i w j m)
+  goes-start m v e q = tested_enough ∙ ap₂ (λ y x. each 32 (bit y) (box_goes A later i w j x)) (sym q) (sym e)
 
-module _ (index rows : List ℕ) (later i : ℕ) (w : List ℕ) where
-  pub left_lt : (m : ℕ) → left_of index rows later i w m < 65536
+module _ (A : Arrays) (later i : ℕ) (w : List ℕ) where
+  pub left_lt : (m : ℕ) → left_of A later i w m < 65536
   unfolding left_of
   left_lt m = mask_of_lt 16 _
 
-  left_by_lt : (j : ℕ) → left_by index rows later i w j < 65536
+  left_by_lt : (j : ℕ) → left_by A later i w j < 65536
   unfolding left_by
-  left_by_lt j = common_lt index rows j i (box_in later i w j)
+  left_by_lt j = common_lt A j i (box_in later i w j)
 
   -- No neighbour leaves every value; the lowest neighbour, and the rest.
-  left_none : left_of index rows later i w 0 ≡ 65535
+  left_none : left_of A later i w 0 ≡ 65535
   unfolding left_of
   left_none =
-      mask_of_same 16 (λ b. each 32 (bit 0) (λ j. bit (left_by index rows later i w j) b)) (λ b. true)
-      (λ b l. holds (each_in 32 (bit 0) (λ j. bit (left_by index rows later i w j) b) λ j h t. absurd (clash (bit_of_zero j) t)))
+      mask_of_same 16 (λ b. each 32 (bit 0) (λ j. bit (left_by A later i w j) b)) (λ b. true)
+      (λ b l. holds (each_in 32 (bit 0) (λ j. bit (left_by A later i w j) b) λ j h t. absurd (clash (bit_of_zero j) t)))
       ∙ full
 
   left-rest :
       (m : ℕ) → m < 2 ^ 32 → ¬ (m ≡ 0)
-      → left_of index rows later i w m ≡ bit_and (left_by index rows later i w (first 32 (bit m))) (left_of index rows later i w (rest m))
+      → left_of A later i w m ≡ bit_and (left_by A later i w (first 32 (bit m))) (left_of A later i w (rest m))
   unfolding left_of
   left-rest m h z =
-      let f : ℕ → ℕ → Bool = λ b j. bit (left_by index rows later i w j) b in
+      let f : ℕ → ℕ → Bool = λ b j. bit (left_by A later i w j) b in
       let j = first 32 (bit m) in
       ap (mask_of 16) (fun_ext λ b. each-rest 32 m h z (f b))
       ∙ sym (mask_of_and 16 (λ b. f b j) (λ b. each 32 (bit (rest m)) (f b)))
@@ -149,14 +137,14 @@ module _ (index rows : List ℕ) (later i : ℕ) (w : List ℕ) where
 
   -- One neighbour more; no value is left; no neighbour is left.
   pub left-next :
-      (out m all j r m' : ℕ) → out < 65536 → m < 2 ^ 32 → ¬ (m ≡ 0) → j ≡ first 32 (bit m) → r ≡ left_by index rows later i w j → m' ≡ rest m
-      → all ≡ bit_and out (left_of index rows later i w m) → all ≡ bit_and (bit_and out r) (left_of index rows later i w m')
+      (out m all j r m' : ℕ) → out < 65536 → m < 2 ^ 32 → ¬ (m ≡ 0) → j ≡ first 32 (bit m) → r ≡ left_by A later i w j → m' ≡ rest m
+      → all ≡ bit_and out (left_of A later i w m) → all ≡ bit_and (bit_and out r) (left_of A later i w m')
   left-next out m all j r m' o h z p q e a =
       a ∙ ap (bit_and out) (left-rest m h z) ∙ sym (and_assoc 16 out _ _ o)
-      ∙ ap₂ (λ x y. bit_and (bit_and out x) (left_of index rows later i w y)) (sym (q ∙ ap (left_by index rows later i w) p)) (sym e)
+      ∙ ap₂ (λ x y. bit_and (bit_and out x) (left_of A later i w y)) (sym (q ∙ ap (left_by A later i w) p)) (sym e)
 
-  pub left-stop : (out m all : ℕ) → out ≡ 0 → all ≡ bit_and out (left_of index rows later i w m) → 0 ≡ all
-  left-stop out m all z a = sym (a ∙ ap (λ x. bit_and x (left_of index rows later i w m)) z ∙ and_zero_l (left_of index rows later i w m))
+  pub left-stop : (out m all : ℕ) → out ≡ 0 → all ≡ bit_and out (left_of A later i w m) → 0 ≡ all
+  left-stop out m all z a = sym (a ∙ ap (λ x. bit_and x (left_of A later i w m)) z ∙ and_zero_l (left_of A later i w m))
 
-  pub left_end : (out m all : ℕ) → out < 65536 → m ≡ 0 → all ≡ bit_and out (left_of index rows later i w m) → out ≡ all
-  left_end out m all h z a = sym (a ∙ ap (λ y. bit_and out (left_of index rows later i w y)) z ∙ ap (bit_and out) left_none ∙ and_mask out 16 ∙ mod-eq_of_lt h)
+  pub left_end : (out m all : ℕ) → out < 65536 → m ≡ 0 → all ≡ bit_and out (left_of A later i w m) → out ≡ all
+  left_end out m all h z a = sym (a ∙ ap (λ y. bit_and out (left_of A later i w y)) z ∙ ap (bit_and out) left_none ∙ and_mask out 16 ∙ mod-eq_of_lt h)

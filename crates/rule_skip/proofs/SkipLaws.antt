@@ -24,6 +24,7 @@ use Rattle.solver_arrays.specs.Words.{list_in, leaf_in}
 use Rattle.solver_arrays.proofs.WordLaws.{get_d_list_in, get_d_leaf_in}
 use Rattle.rule_skip.specs.Skip.{box_in, box_goes, goes_above, boxes_fit, left_by, left_of, LeafSmall}
 use Rattle.rule_skip.proofs.BoxLaws.{left_lt}
+use Rattle.solver_arrays.specs.declared.arrays.Arrays.{Arrays}
 
 -- The later values of u that are not skipped, as a mask.
 pub untried_is : (u a skipped m r : ℕ) → u < 65536 → m ≡ above u a → r ≡ diff m skipped → r ≡ untried (bit skipped) a u
@@ -41,14 +42,14 @@ untried_is u a skipped m r h e q =
     order false false z = refl
 
 -- A neighbour of j above it is a variable above j.
-pub near_above : (P : Problem) (n u : ℕ) (near index rows : List ℕ) → States P n u near index rows → (j k : ℕ) → j < n → T (bit (above (get_or near j 0) j) k) → (j < k) × (k < n)
-near_above P n u near index rows S j k l t =
-    let q = and_out (bit (get_or near j 0) k) (ltb j k) (subst T (bit-above (get_or near j 0) j k) t) in
+pub near_above : (P : Problem) (n : ℕ) (A : Arrays) → States P n A → (j k : ℕ) → j < n → T (bit (above (get_or A.near j 0) j) k) → (j < k) × (k < n)
+near_above P n A S j k l t =
+    let q = and_out (bit (get_or A.near j 0) k) (ltb j k) (subst T (bit-above (get_or A.near j 0) j k) t) in
     (ltb→lt j k q.1, by_lt k n (λ y. y) (λ y. absurd (clash (S.inside j k l y ∙ bit_of_zero k) q.0)))
 
-module _ (P : Problem) (n u : ℕ) (near index rows : List ℕ) (S : States P n u near index rows) (i : ℕ) (h : i < n) (w : List ℕ) (small : LeafSmall n w) where
+module _ (P : Problem) (n : ℕ) (A : Arrays) (S : States P n A) (i : ℕ) (h : i < n) (w : List ℕ) (small : LeafSmall n w) where
   abbrev box : ℕ → ℕ
-  box j = box_in (above u i) i w j
+  box j = box_in (above A.universal i) i w j
 
   abbrev around_of : ℕ → ℕ → ℕ → Bool
   around_of b = around P (list_in n w) i (leaf_in n w) b
@@ -58,8 +59,8 @@ module _ (P : Problem) (n u : ℕ) (near index rows : List ℕ) (S : States P n 
   unfolding box_in around domains
   box_is b j a l d =
       let q : get_or w (96 + j) 0 % 16 ≡ get_or (leaf_in n w) j 0 = mod-eq_of_lt (small j l) ∙ sym (get_d_leaf_in n w j l) in
-      ap (λ x. bit (cond x 0 (cond (bit (above u i) j) (get_or w j 0) (2 ^ (get_or w (96 + j) 0 % 16)))) a) (ne_eqb j i d)
-      ∙ ap (λ x. bit (cond x (get_or w j 0) (2 ^ (get_or w (96 + j) 0 % 16))) a) (bit-above u i j ∙ and_comm (bit u j) (ltb i j) ∙ ap (λ x. ltb i j && x) (sym (S.side j l)))
+      ap (λ x. bit (cond x 0 (cond (bit (above A.universal i) j) (get_or w j 0) (2 ^ (get_or w (96 + j) 0 % 16)))) a) (ne_eqb j i d)
+      ∙ ap (λ x. bit (cond x (get_or w j 0) (2 ^ (get_or w (96 + j) 0 % 16))) a) (bit-above A.universal i j ∙ and_comm (bit A.universal j) (ltb i j) ∙ ap (λ x. ltb i j && x) (sym (S.side j l)))
       ∙ ap₂ (λ m v. bit (cond (ltb i j && P.universal j) m (2 ^ v)) a) (sym (get_d_list_in n w j l)) q
       ∙ go (ltb i j && P.universal j)
       ∙ sym (ap (λ x. cond x (eqb a b) (cond (ltb i j && P.universal j) (bit (get_or (list_in n w) j 0) a) (eqb a (get_or (leaf_in n w) j 0)))) (ne_eqb j i d))
@@ -74,57 +75,57 @@ module _ (P : Problem) (n u : ℕ) (near index rows : List ℕ) (S : States P n 
 
   no_box : (a : ℕ) → bit (box i) a ≡ false
   unfolding box_in
-  no_box a = ap (λ x. bit (cond x 0 (cond (bit (above u i) i) (get_or w i 0) (2 ^ (get_or w (96 + i) 0 % 16)))) a) (eq-eqb i i refl) ∙ bit_of_zero a
+  no_box a = ap (λ x. bit (cond x 0 (cond (bit (above A.universal i) i) (get_or w i 0) (2 ^ (get_or w (96 + i) 0 % 16)))) a) (eq-eqb i i refl) ∙ bit_of_zero a
 
   -- A value common to the rows of a mask is compatible with each of its values.
-  common_is : (j m k c : ℕ) → j < n → k < n → c < 16 → bit (common_in index rows j m k) c ≡ each 16 (bit m) (λ a. bit (row_in index rows j a k) c)
+  common_is : (j m k c : ℕ) → j < n → k < n → c < 16 → bit (common_in A j m k) c ≡ each 16 (bit m) (λ a. bit (row_in A j a k) c)
   unfolding common_in
-  common_is j m k c _ _ l = bit-mask_of 16 (λ c. each 16 (bit m) (λ a. bit (row_in index rows j a k) c)) c l
+  common_is j m k c _ _ l = bit-mask_of 16 (λ c. each 16 (bit m) (λ a. bit (row_in A j a k) c)) c l
 
-  common_out : (j m k c a : ℕ) → j < n → k < n → c < 16 → T (bit (common_in index rows j m k) c) → a < 16 → T (bit m a) → T (P.compatible j a k c)
+  common_out : (j m k c a : ℕ) → j < n → k < n → c < 16 → T (bit (common_in A j m k) c) → a < 16 → T (bit m a) → T (P.compatible j a k c)
   common_out j m k c a x y l t o s =
-      subst T (sym (S.row j a k c x o y l)) (each_out 16 (bit m) (λ a. bit (row_in index rows j a k) c) (subst T (common_is j m k c x y l) t) a o s)
+      subst T (sym (S.row j a k c x o y l)) (each_out 16 (bit m) (λ a. bit (row_in A j a k) c) (subst T (common_is j m k c x y l) t) a o s)
 
-  common_in_lem : (j m k c : ℕ) → j < n → k < n → c < 16 → ((a : ℕ) → a < 16 → T (bit m a) → T (P.compatible j a k c)) → T (bit (common_in index rows j m k) c)
+  common_in_lem : (j m k c : ℕ) → j < n → k < n → c < 16 → ((a : ℕ) → a < 16 → T (bit m a) → T (P.compatible j a k c)) → T (bit (common_in A j m k) c)
   common_in_lem j m k c x y l f =
-      subst T (sym (common_is j m k c x y l)) (each_in 16 (bit m) (λ a. bit (row_in index rows j a k) c) λ a o s. subst T (S.row j a k c x o y l) (f a o s))
+      subst T (sym (common_is j m k c x y l)) (each_in 16 (bit m) (λ a. bit (row_in A j a k) c) λ a o s. subst T (S.row j a k c x o y l) (f a o s))
 
   -- The test of the pairs without i: what it gives, and what shows it.
-  fits_out : T (boxes_fit near index rows n (above u i) i w)
+  fits_out : T (boxes_fit A n (above A.universal i) i w)
       → (j k a c : ℕ) → j < k → k < n → T (P.constrained j k) → a < 16 → T (bit (box j) a) → c < 16 → T (bit (box k) c) → T (P.compatible j a k c)
   unfolding boxes_fit goes_above box_goes
   fits_out t j k a c l y r o s x v =
       let m = S.most in
-      let g = each_out n (λ j. true) (goes_above near index rows (above u i) i w) t j (omega arith) tt in
-      let b = and_in (bit (get_or near j 0) k) (ltb j k) (subst T (S.joined j k (omega arith) y) r) (true_holds (lt-ltb j k l)) in
-      let f = each_out 32 (bit (above (get_or near j 0) j)) (box_goes index rows (above u i) i w j (box j)) g k (omega arith) (subst T (sym (bit-above (get_or near j 0) j k)) b) in
-      common_out j (box j) k c a (omega arith) y x (each_out 16 (bit (box k)) (bit (common_in index rows j (box j) k)) f c x v) o s
+      let g = each_out n (λ j. true) (goes_above A (above A.universal i) i w) t j (omega arith) tt in
+      let b = and_in (bit (get_or A.near j 0) k) (ltb j k) (subst T (S.joined j k (omega arith) y) r) (true_holds (lt-ltb j k l)) in
+      let f = each_out 32 (bit (above (get_or A.near j 0) j)) (box_goes A (above A.universal i) i w j (box j)) g k (omega arith) (subst T (sym (bit-above (get_or A.near j 0) j k)) b) in
+      common_out j (box j) k c a (omega arith) y x (each_out 16 (bit (box k)) (bit (common_in A j (box j) k)) f c x v) o s
 
   fits_in_lem : ((j k a c : ℕ) → j < k → k < n → a < 16 → T (bit (box j) a) → c < 16 → T (bit (box k) c) → T (P.compatible j a k c))
-      → T (boxes_fit near index rows n (above u i) i w)
+      → T (boxes_fit A n (above A.universal i) i w)
   unfolding boxes_fit goes_above box_goes
   fits_in_lem f =
-      each_in n (λ j. true) (goes_above near index rows (above u i) i w) λ j l _.
-      each_in 32 (bit (above (get_or near j 0) j)) (box_goes index rows (above u i) i w j (box j)) λ k _ t.
-      let y = near_above P n u near index rows S j k l t in
-      each_in 16 (bit (box k)) (bit (common_in index rows j (box j) k)) λ c x v. common_in_lem j (box j) k c l y.1 x (λ a o s. f j k a c y.0 y.1 o s x v)
+      each_in n (λ j. true) (goes_above A (above A.universal i) i w) λ j l _.
+      each_in 32 (bit (above (get_or A.near j 0) j)) (box_goes A (above A.universal i) i w j (box j)) λ k _ t.
+      let y = near_above P n A S j k l t in
+      each_in 16 (bit (box k)) (bit (common_in A j (box j) k)) λ c x v. common_in_lem j (box j) k c l y.1 x (λ a o s. f j k a c y.0 y.1 o s x v)
 
   -- The values that are left of i: what they give, and what shows one.
-  left_out : (b : ℕ) → b < 16 → T (bit (left_of index rows (above u i) i w (get_or near i 0)) b)
+  left_out : (b : ℕ) → b < 16 → T (bit (left_of A (above A.universal i) i w (get_or A.near i 0)) b)
       → (j a : ℕ) → j < n → T (P.constrained i j) → a < 16 → T (bit (box j) a) → T (P.compatible j a i b)
   unfolding left_of left_by
   left_out b l t j a y r o s =
       let m = S.most in
-      let f : ℕ → Bool = λ j. bit (left_by index rows (above u i) i w j) b in
-      let e = subst T (bit-mask_of 16 (λ b. each 32 (bit (get_or near i 0)) (λ j. bit (left_by index rows (above u i) i w j) b)) b l) t in
-      common_out j (box j) i b a y h l (each_out 32 (bit (get_or near i 0)) f e j (omega arith) (subst T (S.joined i j h y) r)) o s
+      let f : ℕ → Bool = λ j. bit (left_by A (above A.universal i) i w j) b in
+      let e = subst T (bit-mask_of 16 (λ b. each 32 (bit (get_or A.near i 0)) (λ j. bit (left_by A (above A.universal i) i w j) b)) b l) t in
+      common_out j (box j) i b a y h l (each_out 32 (bit (get_or A.near i 0)) f e j (omega arith) (subst T (S.joined i j h y) r)) o s
 
   left_in : (b : ℕ) → b < 16 → ((j a : ℕ) → j < n → ¬ (j ≡ i) → a < 16 → T (bit (box j) a) → T (P.compatible j a i b))
-      → T (bit (left_of index rows (above u i) i w (get_or near i 0)) b)
+      → T (bit (left_of A (above A.universal i) i w (get_or A.near i 0)) b)
   unfolding left_of left_by
   left_in b l f =
-      subst T (sym (bit-mask_of 16 (λ b. each 32 (bit (get_or near i 0)) (λ j. bit (left_by index rows (above u i) i w j) b)) b l))
-      (each_in 32 (bit (get_or near i 0)) (λ j. bit (left_by index rows (above u i) i w j) b) λ j _ t.
+      subst T (sym (bit-mask_of 16 (λ b. each 32 (bit (get_or A.near i 0)) (λ j. bit (left_by A (above A.universal i) i w j) b)) b l))
+      (each_in 32 (bit (get_or A.near i 0)) (λ j. bit (left_by A (above A.universal i) i w j) b) λ j _ t.
       by_lt j n
       (λ y. common_in_lem j (box j) i b y h l (λ a o s. f j a y (λ e. P.apart i j (subst T (sym (S.joined i j h y)) t) (sym e)) o s))
       (λ y. absurd (clash (S.inside i j h y ∙ bit_of_zero j) t)))
@@ -159,16 +160,16 @@ module _ (P : Problem) (n u : ℕ) (near index rows : List ℕ) (S : States P n 
 
   -- One value of i.
   skip_is : (b : ℕ) → b < 16
-      → skippable P (list_in n w) i (leaf_in n w) b ≡ (boxes_fit near index rows n (above u i) i w && bit (left_of index rows (above u i) i w (get_or near i 0)) b)
+      → skippable P (list_in n w) i (leaf_in n w) b ≡ (boxes_fit A n (above A.universal i) i w && bit (left_of A (above A.universal i) i w (get_or A.near i 0)) b)
   skip_is b l =
-      same (skippable P (list_in n w) i (leaf_in n w) b) (boxes_fit near index rows n (above u i) i w && bit (left_of index rows (above u i) i w (get_or near i 0)) b)
-      (λ t. and_in (boxes_fit near index rows n (above u i) i w) (bit (left_of index rows (above u i) i w (get_or near i 0)) b)
+      same (skippable P (list_in n w) i (leaf_in n w) b) (boxes_fit A n (above A.universal i) i w && bit (left_of A (above A.universal i) i w (get_or A.near i 0)) b)
+      (λ t. and_in (boxes_fit A n (above A.universal i) i w) (bit (left_of A (above A.universal i) i w (get_or A.near i 0)) b)
       (fits_in_lem λ j k a c q y o s x v. solid_out b t j k a c q y o (box_in_lem b j a (omega arith) s) x (box_in_lem b k c y v))
       (left_in b l λ j a y d o s.
       by_lt j i
       (λ q. solid_out b t j i a b q h o (box_in_lem b j a y s) l (own_in b))
       (λ q. subst T (P.symmetric i b j a) (solid_out b t i j b a (omega arith) y l (own_in b) o (box_in_lem b j a y s)))))
-      (λ t. let g = and_out (boxes_fit near index rows n (above u i) i w) (bit (left_of index rows (above u i) i w (get_or near i 0)) b) t in
+      (λ t. let g = and_out (boxes_fit A n (above A.universal i) i w) (bit (left_of A (above A.universal i) i w (get_or A.near i 0)) b) t in
       solid_in b λ j k a c q y o s x v.
       by_eq j i
       (λ e. subst T (P.symmetric k c j a)
@@ -192,25 +193,25 @@ module _ (P : Problem) (n u : ℕ) (near index rows : List ℕ) (S : States P n 
   abbrev Skipped : ℕ
   Skipped = mask_of 16 (skippable P (list_in n w) i (leaf_in n w))
 
-  module _ (v : ℕ) (z : v ≡ above u i) where
-    fits_at_lem : boxes_fit near index rows n (above u i) i w ≡ boxes_fit near index rows n v i w
-    fits_at_lem = ap (λ v. boxes_fit near index rows n v i w) (sym z)
+  module _ (v : ℕ) (z : v ≡ above A.universal i) where
+    fits_at_lem : boxes_fit A n (above A.universal i) i w ≡ boxes_fit A n v i w
+    fits_at_lem = ap (λ v. boxes_fit A n v i w) (sym z)
 
-    left_at : left_of index rows (above u i) i w (get_or near i 0) ≡ left_of index rows v i w (get_or near i 0)
-    left_at = ap (λ v. left_of index rows v i w (get_or near i 0)) (sym z)
+    left_at : left_of A (above A.universal i) i w (get_or A.near i 0) ≡ left_of A v i w (get_or A.near i 0)
+    left_at = ap (λ v. left_of A v i w (get_or A.near i 0)) (sym z)
 
-    skip_at : (b : ℕ) → b < 16 → skippable P (list_in n w) i (leaf_in n w) b ≡ (boxes_fit near index rows n v i w && bit (left_of index rows v i w (get_or near i 0)) b)
+    skip_at : (b : ℕ) → b < 16 → skippable P (list_in n w) i (leaf_in n w) b ≡ (boxes_fit A n v i w && bit (left_of A v i w (get_or A.near i 0)) b)
     skip_at b l = skip_is b l ∙ ap₂ (λ x m. x && bit m b) fits_at_lem left_at
 
     abbrev left : ℕ
-    left = left_of index rows v i w (get_or near i 0)
+    left = left_of A v i w (get_or A.near i 0)
 
-    left_skipped : boxes_fit near index rows n v i w ≡ true → left ≡ Skipped
+    left_skipped : boxes_fit A n v i w ≡ true → left ≡ Skipped
     left_skipped t =
-        mask_of_bits 16 left (left_lt index rows v i w (get_or near i 0))
+        mask_of_bits 16 left (left_lt A v i w (get_or A.near i 0))
         ∙ mask_of_same 16 (bit left) (skippable P (list_in n w) i (leaf_in n w)) λ b l. sym (skip_at b l ∙ ap (λ x. x && bit left b) t)
 
-    none_skipped : boxes_fit near index rows n v i w ≡ false → 0 ≡ Skipped
+    none_skipped : boxes_fit A n v i w ≡ false → 0 ≡ Skipped
     none_skipped t =
         mask_of_bits 16 0 (omega arith)
         ∙ mask_of_same 16 (bit 0) (skippable P (list_in n w) i (leaf_in n w)) λ b l.
@@ -218,11 +219,11 @@ module _ (P : Problem) (n u : ℕ) (near index rows : List ℕ) (S : States P n 
 
     -- Of the values m of i: the pairs without i fit; they do not; no value is left.
     module _ (m : ℕ) where
-      pub skips_left : (r : ℕ) → r ≡ bit_and m left → boxes_fit near index rows n v i w ≡ true → r ≡ bit_and m Skipped
+      pub skips_left : (r : ℕ) → r ≡ bit_and m left → boxes_fit A n v i w ≡ true → r ≡ bit_and m Skipped
       skips_left r e t = e ∙ ap (bit_and m) (left_skipped t)
 
-      pub skips_none : boxes_fit near index rows n v i w ≡ false → 0 ≡ bit_and m Skipped
+      pub skips_none : boxes_fit A n v i w ≡ false → 0 ≡ bit_and m Skipped
       skips_none t = sym (ap (bit_and m) (sym (none_skipped t)) ∙ and_zero_r m)
 
       pub skips_empty : (r : ℕ) → r ≡ bit_and m left → r ≡ 0 → 0 ≡ bit_and m Skipped
-      skips_empty r e o = test (boxes_fit near index rows n v i w) (λ t. sym o ∙ skips_left r e (holds t)) skips_none
+      skips_empty r e o = test (boxes_fit A n v i w) (λ t. sym o ∙ skips_left r e (holds t)) skips_none

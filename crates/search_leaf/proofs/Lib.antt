@@ -1,5 +1,3 @@
--- The first clash of a variable, a neighbour at a time.
-pub mod ClashLaws
 -- The first clash of all in a problem that the arrays state: its first broken constraint.
 pub mod BrokenLaws
 -- The words with a leaf put in.

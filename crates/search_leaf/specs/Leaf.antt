@@ -1,5 +1,5 @@
 -- The leaf over the arrays: every variable's word is a mask of one value.
-use Rattle.std.specs.Prelude.{◌≡◌, Bool, cond, ◌&&◌, List, ℕ, zero, suc, ◌+◌, ◌%◌, ◌^◌, ◌<◌, eqb, get_or, length, set}
+use Rattle.std.specs.Prelude.{◌≡◌, Bool, cond, ◌&&◌, List, ℕ, zero, suc, ◌+◌, ◌%◌, ◌^◌, ◌<◌, eqb, get_or, length, set, Option, Some, None}
 use Rattle.std.specs.Int.Bits.{bit_and}
 use Rattle.mask.specs.Range.{first}
 use Rattle.mask.specs.Mask.{bit, above}
@@ -7,6 +7,7 @@ use Rattle.game.specs.Problem.{Problem}
 use Rattle.game.specs.Game.{satisfied}
 use Rattle.game.specs.Position.{play_of}
 use Rattle.game.specs.Search.{first_broken}
+use Rattle.solver_arrays.specs.declared.arrays.Arrays.{Arrays}
 use Rattle.solver_arrays.specs.Arrays.{row_in, States}
 
 -- The value of a mask of one value: its lowest, cut to 4 bits so that it is a value whatever the mask.
@@ -18,12 +19,12 @@ abbrev pub value_in : List ℕ → ℕ → ℕ
 value_in w j = value_of (get_or w j 0)
 
 -- No value of y goes with the value of x.
-unfoldable pub clashes : List ℕ → List ℕ → List ℕ → ℕ → ℕ → Bool
-clashes index rows w x y = eqb (bit_and (row_in index rows x (value_in w x) y) (get_or w y 0)) 0
+unfoldable pub clashes : Arrays → List ℕ → ℕ → ℕ → Bool
+clashes A w x y = eqb (bit_and (row_in A x (value_in w x) y) (get_or w y 0)) 0
 
 -- The first neighbour of x above it that its value clashes with, or 32.
-unfoldable pub first_clash : List ℕ → List ℕ → List ℕ → List ℕ → ℕ → ℕ
-first_clash near index rows w x = first 32 (λ y. bit (above (get_or near x 0) x) y && clashes index rows w x y)
+unfoldable pub first_clash : Arrays → List ℕ → ℕ → ℕ
+first_clash A w x = first 32 (λ y. bit (above (get_or A.near x 0) x) y && clashes A w x y)
 
 -- The words w hold the play p of all n variables, each as a mask of one value.
 pub record Plays (n : ℕ) (w p : List ℕ) : Type 0 where
@@ -31,14 +32,13 @@ pub record Plays (n : ℕ) (w p : List ℕ) : Type 0 where
   pub small : (j : ℕ) → j < n → get_or p j 0 < 16
   pub word : (j : ℕ) → j < n → get_or w j 0 ≡ 2 ^ get_or p j 0
 
--- 0 where the play p of n variables satisfies every constraint, else the mask of the two variables of the first broken one.
-abbrev pub broken_mask : Problem → ℕ → List ℕ → ℕ
-broken_mask P n p = cond (satisfied P.compatible n (play_of p)) 0 (first_broken P p)
+-- The mask of the two variables of the first constraint that the play p of n variables breaks.
+abbrev pub broken_mask : Problem → ℕ → List ℕ → Option ℕ
+broken_mask P n p = cond (satisfied P.compatible n (play_of p)) None (Some (first_broken P p))
 
--- The mask r is this one for the play that the words hold, in every problem that the arrays state.
-abbrev pub Tells : List ℕ → List ℕ → List ℕ → ℕ → List ℕ → ℕ → Type 0
-Tells near index rows n w r =
-    (P : Problem) (u : ℕ) (p : List ℕ) → States P n u near index rows → Plays n w p → r ≡ broken_mask P n p
+-- The reply r is this one for the play that the words hold, in every problem that the arrays state.
+abbrev pub Tells : (A : Arrays) (w : List ℕ) (r : Option ℕ) → Type 0
+Tells A w r = (P : Problem) (p : List ℕ) → States P A.n A → Plays A.n w p → r ≡ broken_mask P A.n p
 
 -- The words w with the values of the first n variables as leaf.
 unfoldable pub with_leaf : ℕ → List ℕ → List ℕ

@@ -3,11 +3,11 @@
 #![tactic(auto)]
 
 ghost use Rattle.std.specs.Prelude.{◌≡◌, ◌<◌, ◌≤◌, length};
-ghost use Rattle.solver_arrays.specs.Arrays.{InRange};
+ghost use Rattle.mask.specs.Found.{found};
 ghost use Rattle.search_leaf.specs.Leaf.{value_of, clashes, first_clash, Tells, with_leaf};
 
-use mask::{lowest, lowest_32, rest_of_32, single_32};
-use solver_arrays::{Index, Near, Rows, later_neighbours, row};
+use mask::{lowest, members_of, single};
+use solver_arrays::Arrays;
 
 // The value of a mask of one value.
 fn value_of(m: u16) -> u16
@@ -17,44 +17,33 @@ fn value_of(m: u16) -> u16
 }
 
 // Whether the value of x clashes with that of y.
-fn clash(index: &Index, rows: &Rows, x: usize, y: usize, w: &[u16]) -> bool
-    requires { (x < 32) × (y < 32) × (96 ≤ length w.now) × InRange index.now }
-    ensures { result ≡ clashes index.now rows.now w.now x y }
+fn clash(arrays: &Arrays, x: usize, y: usize, w: &[u16]) -> bool
+    requires { (x < 32) × (y < 32) × (96 ≤ length w.now) }
+    ensures { result ≡ clashes arrays.now w.now x y }
 {
     let a = value_of(w[x]) as usize;
-    row(index, rows, x, a, y) & w[y] == 0
+    arrays.row(x, a, y) & w[y] == 0
 }
 
-// The first neighbour of x above it whose value clashes with that of x, or 32.
-fn first_clash(near: &Near, index: &Index, rows: &Rows, x: usize, w: &[u16]) -> usize
-    requires { (x < 32) × (96 ≤ length w.now) × InRange index.now }
-    ensures { result ≡ first_clash near.now index.now rows.now w.now x }
+// The first neighbour of x above it whose value clashes with that of x.
+fn first_clash(arrays: &Arrays, x: usize, w: &[u16]) -> Option<usize>
+    requires { (x < 32) × (96 ≤ length w.now) }
+    ensures { result ≡ found 32 (first_clash arrays.now w.now x) }
 {
-    let mut left = later_neighbours(near, x);
-    while left != 0 {
-        let y = lowest_32(left) as usize;
-        if clash(index, rows, x, y, w) {
-            return y;
-        }
-        left = rest_of_32(left);
-    }
-    32
+    members_of(arrays.later_neighbours(x)).find(|y| clash(arrays, x, *y, w))
 }
 
-// 0 where no constraint is broken, else the mask of the two variables of the first broken one, ascending by (x, y).
-pub fn first_broken(near: &Near, index: &Index, rows: &Rows, n: usize, w: &[u16]) -> u32
-    requires { (n ≤ 32) × (96 ≤ length w.now) × InRange index.now }
-    ensures { Tells near.now index.now rows.now n w.now result }
+// The mask of the two variables of the first broken constraint, ascending by (x, y).
+pub fn first_broken(arrays: &Arrays, w: &[u16]) -> Option<u32>
+    requires { (96 ≤ length w.now) }
+    ensures { Tells arrays.now w.now result }
 {
-    let mut x = 0;
-    while x < n {
-        let y = first_clash(near, index, rows, x, w);
-        if y < 32 {
-            return single_32(x) | single_32(y);
+    for x in 0..arrays.n {
+        if let Some(y) = first_clash(arrays, x, w) {
+            return Some(single::<u32>(x) | single::<u32>(y));
         }
-        x += 1;
     }
-    0
+    None
 }
 
 // The value of each variable, in the words of the leaf.
@@ -62,9 +51,7 @@ pub fn copy_leaf(n: usize, w: &mut [u16])
     requires { (n ≤ 32) × (128 ≤ length w.old) }
     ensures { w.new ≡ with_leaf n w.old }
 {
-    let mut j = 0;
-    while j < n {
+    for j in 0..n {
         w[96 + j] = value_of(w[j]);
-        j += 1;
     }
 }

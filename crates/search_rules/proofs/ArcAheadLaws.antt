@@ -27,13 +27,14 @@ use Rattle.rule_arc.specs.ArcRule.{Arced}
 use Rattle.rule_forward.specs.Replies.{ahead_value, ahead_variable, conflict_in}
 use Rattle.rule_forward.proofs.RuleLaws.{loss_named_lem, ahead_named_lem, conflict-before}
 use Rattle.search_rules.specs.RuledTurn.{Replied}
+use Rattle.solver_arrays.specs.declared.arrays.Arrays.{Arrays}
 
 -- An emptied existential domain is a loss of rule 1.
 emptied_loses : (P : Problem) (l : List ℕ) (j : ℕ) → j < P.n → P.universal j ≡ false → get_or l j 0 ≡ 0 → T (arc_loss P (domains l))
 unfolding empty domains
 emptied_loses P l j h u e = empty_loses P (domains l) j h u (true_holds (sym (empty-some 16 (get_or l j 0) (omega arith)) ∙ eq-eqb (get_or l j 0) 0 e))
 
-module _ (P : Problem) (n universal : ℕ) (near index rows : List ℕ) (st : States P n universal near index rows) (w : List ℕ) (long : 96 ≤ length w) where
+module _ (P : Problem) (n : ℕ) (A : Arrays) (st : States P n A) (w : List ℕ) (long : 96 ≤ length w) where
   -- The code of rule 1.
   pub arc_replies : ((k : ℕ) → get_or w k 0 < 65536) → (v : List ℕ) (lost : Bool) (q : ℕ) → Arced P n w v lost q → Replied n w v lost q (explain_arc P (list_in n w) (why_in n w))
   unfolding explain_arc

@@ -9,6 +9,7 @@ use Rattle.game.specs.Reasons.{Step, Ruling, idle, chain, choose}
 use Rattle.solver_arrays.specs.Words.{list_in, why_in, holding}
 use Rattle.solver_arrays.proofs.WordLaws.{length-list_in, length-why_in, list_in-holding, why_in-holding, holding-own, holding_again}
 use Rattle.search_rules.specs.RuledTurn.{Replied, ChecksTurn}
+use Rattle.solver_arrays.specs.declared.arrays.Arrays.{Arrays}
 
 pick_one : (b : Bool) (o q : Step) → b ≡ true → cond b o q ≡ o
 pick_one true o q e = refl
@@ -70,6 +71,6 @@ unfolding choose
 left_out b r n w v l R lost q e t = subst (Replied n w v lost q) (sym (pick_two b (r l R) (idle l R) e)) t
 
 -- Rule 2 is on.
-pub checks_on : {n universal : ℕ} {near index rows : List ℕ} {on : Bool} {c d : ℕ} {w w' : List ℕ} {lost : Bool} {conflict narrowed : ℕ} → on ≡ true
-    → ChecksTurn n universal near index rows true c d w w' lost conflict narrowed → ChecksTurn n universal near index rows on c d w w' lost conflict narrowed
+pub checks_on : {n : ℕ} {A : Arrays} {on : Bool} {c d : ℕ} {w w' : List ℕ} {lost : Bool} {conflict narrowed : ℕ} → on ≡ true
+    → ChecksTurn n A true c d w w' lost conflict narrowed → ChecksTurn n A on c d w w' lost conflict narrowed
 checks_on e t = rw e t

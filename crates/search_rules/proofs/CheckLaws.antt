@@ -28,6 +28,7 @@ use Rattle.rule_forward.specs.Replies.{after_forward, conflict_in}
 use Rattle.rule_forward.proofs.RuleLaws.{empty_mask, one_value, mask_own, mask_stays, loss_named_lem, conflict-after}
 use Rattle.search_rules.specs.RuledTurn.{Replied, Plays, lowest_of}
 use Rattle.search_rules.proofs.ChainLaws.{chain_lost, chain_on, idle_replies}
+use Rattle.solver_arrays.specs.declared.arrays.Arrays.{Arrays}
 
 single_full : (a : ℕ) → ¬ (2 ^ a ≡ 0)
 single_full a e = clash (ap (λ (m : ℕ). bit m a) e ∙ bit_of_zero a) (true_holds (bit_single a a ∙ eq-eqb a a refl))
@@ -49,7 +50,7 @@ kept_test false true false false f = refl
 kept_test false false true false f = refl
 kept_test false false false false f = refl
 
-module _ (P : Problem) (n universal : ℕ) (near index rows : List ℕ) (st : States P n universal near index rows)
+module _ (P : Problem) (n : ℕ) (A : Arrays) (st : States P n A)
     (x a : ℕ) (hx : x < n) (w : List ℕ) (long : 96 ≤ length w) where
   abbrev F : Domains
   F = forward_domains P (domains (list_in n w)) x a
@@ -107,7 +108,7 @@ module _ (P : Problem) (n universal : ℕ) (near index rows : List ℕ) (st : St
     }
 
     -- A check that names no variable leaves none empty.
-    emptied_named : (j : ℕ) → j < n → x < j → bit universal j ≡ false → mask_of 16 (F j) ≡ 0 → forward_named P x a (list_in n w) < n
+    emptied_named : (j : ℕ) → j < n → x < j → bit A.universal j ≡ false → mask_of 16 (F j) ≡ 0 → forward_named P x a (list_in n w) < n
     unfolding forward_named
     emptied_named j h l u m =
         let s = first_below P.n (λ j. ltb x j && forward_fails P (domains (list_in n w)) x a j) j (rw st.size h)
@@ -117,12 +118,12 @@ module _ (P : Problem) (n universal : ℕ) (near index rows : List ℕ) (st : St
 
     full-after : (j : ℕ) → j < n → ¬ (get_or w j 0 ≡ 0) → n ≤ forward_named P x a (list_in n w) → ¬ (mask_of 16 (F j) ≡ 0)
     full-after j h z k m = by_eq j x
-        (λ e. single_full a (sym (mask_own P n universal near index rows st x a hx ha w small j h e) ∙ m))
+        (λ e. single_full a (sym (mask_own P n A st x a hx ha w small j h e) ∙ m))
         (λ e. by_lt x j
-        (λ l. test (bit universal j)
-        (λ u. z (sym (mask_stays P n universal near index rows st x a hx ha w small j h e (rw (lt-ltb x j l, holds {b = bit universal j} u))) ∙ m))
+        (λ l. test (bit A.universal j)
+        (λ u. z (sym (mask_stays P n A st x a hx ha w small j h e (rw (lt-ltb x j l, holds {b = bit A.universal j} u))) ∙ m))
         (λ u. let f = emptied_named j h l u m in omega arith))
-        (λ l. z (sym (mask_stays P n universal near index rows st x a hx ha w small j h e (rw (le-ltb x j l))) ∙ m)))
+        (λ l. z (sym (mask_stays P n A st x a hx ha w small j h e (rw (le-ltb x j l))) ∙ m)))
 
     check_lasts : (v : ℕ) (u : List ℕ) → v ≡ forward_named P x a (list_in n w) → u ≡ after_forward P n x a w → n ≤ v → Nonzero n w → Nonzero n u
     check_lasts v u e f h z j k m =
@@ -134,8 +135,8 @@ pub record Along (P : Problem) (n c d x : ℕ) (p first now : List ℕ) : Type 0
   pub on : (v : List ℕ) (lost : Bool) (q : ℕ) → Replied n now v lost q (explain_checks P (d - x) x p (list_in n now) (why_in n now))
       → Replied n first v lost q (explain_checks P (d - c) c p (list_in n first) (why_in n first))
 
-abbrev pub Checking : (n universal : ℕ) (near index rows : List ℕ) (c d x : ℕ) (first now : List ℕ) → Type 0
-Checking n universal near index rows c d x first now = (P : Problem) → States P n universal near index rows → (p : List ℕ) → Plays c d p first → Along P n c d x p first now
+abbrev pub Checking : (n : ℕ) (A : Arrays) (c d x : ℕ) (first now : List ℕ) → Type 0
+Checking n A c d x first now = (P : Problem) → States P n A → (p : List ℕ) → Plays c d p first → Along P n c d x p first now
 
 pub along_start : (P : Problem) (n c d : ℕ) (p w : List ℕ) → Plays c d p w → Along P n c d c p w w
 along_start P n c d p w s = record { plays = s; on = λ v lost q t. t }
@@ -144,7 +145,7 @@ checks-next : (P : Problem) (d x : ℕ) (p l R : List ℕ) → x < d → explain
 unfolding explain_checks
 checks-next P d x p l R h = let e : d - x ≡ suc (d - suc x) = omega arith in ap (λ (k : ℕ). explain_checks P k x p l R) e
 
-module _ (P : Problem) (n universal : ℕ) (near index rows : List ℕ) (st : States P n universal near index rows)
+module _ (P : Problem) (n : ℕ) (A : Arrays) (st : States P n A)
     (c d x : ℕ) (hd : d ≤ n) (p f w : List ℕ) (long : 96 ≤ length w) (along : Along P n c d x p f w) where
   pub along_end : d ≤ x → ((k : ℕ) → get_or w k 0 < 65536) → (q : ℕ) → Replied n f w false q (explain_checks P (d - c) c p (list_in n f) (why_in n f))
   unfolding explain_checks
@@ -170,8 +171,8 @@ module _ (P : Problem) (n universal : ℕ) (near index rows : List ℕ) (st : St
         count = along.plays.count;
         value = λ j l k. along.plays.value j (omega arith) k;
         word = λ j l k.
-            let m = mask_after P n universal near index rows st x (get_or p x 0) (omega arith) w long u lost q told j (omega arith) in
-            m ∙ played-after P n universal near index rows st x (get_or p x 0) (omega arith) w long j (get_or p j 0) (omega arith) (omega arith)
+            let m = mask_after P n A st x (get_or p x 0) (omega arith) w long u lost q told j (omega arith) in
+            m ∙ played-after P n A st x (get_or p x 0) (omega arith) w long j (get_or p j 0) (omega arith) (omega arith)
             (along.plays.value j (omega arith) k) (along.plays.word j (omega arith) k) (λ s. z j (omega arith) (m ∙ s));
       };
       on = λ v lost' q' r. along.on v lost' q' (subst (Replied n w v lost' q') (sym (checks-next P d x p (list_in n w) (why_in n w) h))
@@ -179,7 +180,7 @@ module _ (P : Problem) (n universal : ℕ) (near index rows : List ℕ) (st : St
     })
 
 -- The code of one check, with the lowest value a of x.
-module _ (P : Problem) (n universal : ℕ) (near index rows : List ℕ) (st : States P n universal near index rows) (x : ℕ) (hx : x < n) (w : List ℕ) (long : 96 ≤ length w)
+module _ (P : Problem) (n : ℕ) (A : Arrays) (st : States P n A) (x : ℕ) (hx : x < n) (w : List ℕ) (long : 96 ≤ length w)
     (small : (k : ℕ) → get_or w k 0 < 65536) (z : Nonzero n w) (a : ℕ) (low : a ≡ first 16 (bit (get_or w x 0))) (v : ℕ) (u : List ℕ) (e : v ≡ forward_named P x a (list_in n w)) (f : u ≡ after_forward P n x a w) where
   pub value_lt : a < 16
   value_lt = rw low (low_lt 16 (get_or w x 0) (small x) (z x hx))
@@ -187,12 +188,12 @@ module _ (P : Problem) (n universal : ℕ) (near index rows : List ℕ) (st : St
   pub play_lost : v < n → (q : ℕ) → q ≡ conflict_in P x v u → Replied n w u true q (explain_forward P x (lowest_of w x) (list_in n w) (why_in n w))
   unfolding lowest_of
   play_lost h q g = subst (λ (a : ℕ). Replied n w u true q (explain_forward P x a (list_in n w) (why_in n w))) low
-      (check_lost P n universal near index rows st x a hx w long value_lt small v u q e f h g)
+      (check_lost P n A st x a hx w long value_lt small v u q e f h g)
 
   pub play_kept : n ≤ v → (q : ℕ) → Replied n w u false q (explain_forward P x (lowest_of w x) (list_in n w) (why_in n w))
   unfolding lowest_of
   play_kept h q = subst (λ (a : ℕ). Replied n w u false q (explain_forward P x a (list_in n w) (why_in n w))) low
-      (check_kept P n universal near index rows st x a hx w long value_lt small v u q e f h)
+      (check_kept P n A st x a hx w long value_lt small v u q e f h)
 
   pub play_lasts : n ≤ v → Nonzero n u
-  play_lasts h = check_lasts P n universal near index rows st x a hx w long value_lt small v u e f h z
+  play_lasts h = check_lasts P n A st x a hx w long value_lt small v u e f h z

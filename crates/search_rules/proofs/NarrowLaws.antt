@@ -36,9 +36,10 @@ use Rattle.rule_arc.proofs.CalmLaws.{calm_less}
 use Rattle.rule_arc.proofs.QuietLaws.{calm_in}
 use Rattle.search_rules.specs.RuledTurn.{Narrowed, Outside, Settled, lowest_of, Heeded}
 use Rattle.search_rules.proofs.CheckLaws.{lowest_single, mask_after, check_kept, value_lt}
+use Rattle.solver_arrays.specs.declared.arrays.Arrays.{Arrays}
 
 -- The code of one check, with the lowest value a of x.
-module _ (P : Problem) (n universal : ℕ) (near index rows : List ℕ) (st : States P n universal near index rows) (x : ℕ) (hx : x < n) (w : List ℕ) (long : 96 ≤ length w)
+module _ (P : Problem) (n : ℕ) (A : Arrays) (st : States P n A) (x : ℕ) (hx : x < n) (w : List ℕ) (long : 96 ≤ length w)
     (small : (k : ℕ) → get_or w k 0 < 65536) (z : Nonzero n w) (a : ℕ) (low : a ≡ first 16 (bit (get_or w x 0))) (v : ℕ) (u : List ℕ) (e : v ≡ forward_named P x a (list_in n w)) (f : u ≡ after_forward P n x a w) where
   play_less : n ≤ v → (k b : ℕ) → k < n → T (bit (get_or u k 0) b) → T (bit (get_or w k 0) b)
   unfolding forward_domains domains
@@ -48,8 +49,8 @@ module _ (P : Problem) (n universal : ℕ) (near index rows : List ℕ) (st : St
       F = forward_domains P (domains (list_in n w)) x a k
 
       t' : T (bit (mask_of 16 F) b)
-      t' = rw (mask_after P n universal near index rows st x a hx w long u false 0 (check_kept P n universal near index rows st x a hx w long
-          (value_lt P n universal near index rows st x hx w long small z a low v u e f) small v u 0 e f h) k l) at t
+      t' = rw (mask_after P n A st x a hx w long u false 0 (check_kept P n A st x a hx w long
+          (value_lt P n A st x hx w long small z a low v u e f) small v u 0 e f h) k l) at t
 
       stays : T (bit (get_or (list_in n w) k 0) b) → T (bit (get_or w k 0) b)
       stays s = rw (get_d_list_in n w k l) at s
@@ -78,15 +79,15 @@ module _ (P : Problem) (n universal : ℕ) (near index rows : List ℕ) (st : St
     E = domains (list_in n u)
 
     after_mask : (j : ℕ) → j < n → get_or u j 0 ≡ mask_of 16 (forward_domains P D x a j)
-    after_mask = mask_after P n universal near index rows st x a hx w long u false 0
-        (check_kept P n universal near index rows st x a hx w long (value_lt P n universal near index rows st x hx w long small z a low v u e f) small v u 0 e f h)
+    after_mask = mask_after P n A st x a hx w long u false 0
+        (check_kept P n A st x a hx w long (value_lt P n A st x hx w long small z a low v u e f) small v u 0 e f h)
 
     after_at : (j b : ℕ) → j < n → b < 16 → E j b ≡ forward_domains P D x a j b
     unfolding domains
     after_at j b lj lb = ap (λ (m : ℕ). bit m b) (get_d_list_in n u j lj ∙ after_mask j lj) ∙ bit-mask_of 16 (forward_domains P D x a j) b lb
 
     value : a < 16
-    value = value_lt P n universal near index rows st x hx w long small z a low v u e f
+    value = value_lt P n A st x hx w long small z a low v u e f
 
     own_value : (b : ℕ) → b < 16 → E x b ≡ eqb b a
     unfolding forward_domains
@@ -129,12 +130,12 @@ module _ (P : Problem) (n universal : ℕ) (near index rows : List ℕ) (st : St
           shut true q f = fails f
           shut false q f = refl
 
-    pub play_heeded : ((k : ℕ) → get_or u k 0 < 65536) → Heeded n universal near index rows x w u
+    pub play_heeded : ((k : ℕ) → get_or u k 0 < 65536) → Heeded n A x w u
     unfolding lowest_of
     play_heeded below = record {
       own = bit_ext 16 (get_or u x 0) (2 ^ first 16 (bit (get_or w x 0))) (below x) (let g : first 16 (bit (get_or w x 0)) < 16 = rw (← low) value in pow-lt g)
           (λ b lb. ap (λ (m : ℕ). bit m b) (after_mask x hx) ∙ bit-mask_of 16 (forward_domains P D x a x) b lb ∙ sym (after_at x b hx lb) ∙ own_value b lb ∙ ap (eqb b) low ∙ sym (bit_single (first 16 (bit (get_or w x 0))) b));
-      later = λ y ly l. calm_in P n universal near index rows st u below y x ly hx (behind y ly l);
+      later = λ y ly l. calm_in P n A st u below y x ly hx (behind y ly l);
     }
 
 -- No play; one play more.
@@ -152,8 +153,8 @@ narrowed_more n c d x m m' w v u g h s t = record {
     outer (inr l) = inr (omega arith)
 
 -- The first play.
-pub heeded_first : (n universal : ℕ) (near index rows : List ℕ) (x c : ℕ) (f w u : List ℕ) → x ≡ c → (x ≡ c → w ≡ f) → Heeded n universal near index rows x w u → Heeded n universal near index rows c f u
-heeded_first n universal near index rows x c f w u e q h = subst (λ y. Heeded n universal near index rows y f u) e (subst (λ v. Heeded n universal near index rows x v u) (q e) h)
+pub heeded_first : (n : ℕ) (A : Arrays) (x c : ℕ) (f w u : List ℕ) → x ≡ c → (x ≡ c → w ≡ f) → Heeded n A x w u → Heeded n A c f u
+heeded_first n A x c f w u e q h = subst (λ y. Heeded n A y f u) e (subst (λ v. Heeded n A x v u) (q e) h)
 
 -- What rule 1 looks at.
 pub outside_none : (n c d : ℕ) (on : Bool) (narrowed r : ℕ) → ((k : ℕ) → bit r k ≡ ltb k n) → Outside n c d on narrowed r
@@ -169,9 +170,9 @@ module _ (n c d : ℕ) (on : Bool) (narrowed : ℕ) (z : ¬ (c ≡ 0)) (e : c + 
       (z, e, q.0, λ i. absurd (clash (sym (bit_single c k) ∙ sym (ap (λ m. bit m k) f) ∙ q.1) (true_holds (eq-eqb k c i))))
 
 -- After rule 2 no other variable has an effect.
-module _ (n universal : ℕ) (near index rows : List ℕ) (S c d m r : ℕ) (w v : List ℕ) (small : (k : ℕ) → get_or v k 0 < 65536) (s : Settled n universal near index rows S c d w)
-    (t : Narrowed n c d m w v) (checks : Bool) (g : checks ≡ true → c + 1 ≡ d → Heeded n universal near index rows c w v) (o : Outside n c d checks m r) where
-  pub calm_after : (on : Bool) → on ≡ uses S 1 → on ≡ true → CalmBut n r near index rows universal v
+module _ (n : ℕ) (A : Arrays) (S c d m r : ℕ) (w v : List ℕ) (small : (k : ℕ) → get_or v k 0 < 65536) (s : Settled n A S c d w)
+    (t : Narrowed n c d m w v) (checks : Bool) (g : checks ≡ true → c + 1 ≡ d → Heeded n A c w v) (o : Outside n c d checks m r) where
+  pub calm_after : (on : Bool) → on ≡ uses S 1 → on ≡ true → CalmBut n r A v
   unfolding lowest_of
   calm_after on e f x k lx lk b =
       let q = o k lk b in
@@ -180,9 +181,9 @@ module _ (n universal : ℕ) (near index rows : List ℕ) (S c d m r : ℕ) (w v
       by_eq k c
       (λ z. let h = g (q.3 z) i in
       by_lt c x
-      (λ l. subst (Calm near index rows universal v x) (sym z) (h.later x lx l))
+      (λ l. subst (Calm A v x) (sym z) (h.later x lx l))
       (λ l. let a = rested.single c (omega arith) (omega arith) in
       let p : get_or v c 0 ≡ get_or w c 0 = h.own ∙ ap (λ y. 2 ^ first 16 (bit y)) a.2 ∙ ap (λ y. 2 ^ y) (lowest_single a.0 a.1) ∙ sym a.2 in
-      calm_less near index rows universal w v x k (rested.calm x k lx lk (λ _ _. omega arith)) (subst (λ y. get_or v y 0 ≡ get_or w y 0) (sym z) p) (λ a. t.less x a lx) (small x)))
-      (λ z. calm_less near index rows universal w v x k (rested.calm x k lx lk (λ c1 c2. absurd (omega arith)))
+      calm_less A w v x k (rested.calm x k lx lk (λ _ _. omega arith)) (subst (λ y. get_or v y 0 ≡ get_or w y 0) (sym z) p) (λ a. t.less x a lx) (small x)))
+      (λ z. calm_less A w v x k (rested.calm x k lx lk (λ c1 c2. absurd (omega arith)))
       (t.kept k lk (by_lt k c inl (λ l. inr (omega arith))) q.2) (λ a. t.less x a lx) (small x))

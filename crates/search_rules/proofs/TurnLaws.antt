@@ -17,6 +17,7 @@ use Rattle.solver_arrays.proofs.WordLaws.{length-holding}
 use Rattle.search_rules.specs.RuledTurn.{Replied, Plays}
 use Rattle.search_rules.proofs.ChainLaws.{chain_lost, chain_on, chosen, left_out}
 use Rattle.search_rules.proofs.AfterArc.{ahead_omitted}
+use Rattle.solver_arrays.specs.declared.arrays.Arrays.{Arrays}
 
 -- Look ahead is left out where rule 1 is used, and used below n only.
 pub ahead_off : (on u b : Bool) → on ≡ u → on ≡ true → false ≡ (not u && b)
@@ -26,7 +27,7 @@ pub ahead-below : (S d n : ℕ) (b : Bool) → b ≡ (not (uses S 1) && (ltb d n
 ahead-below S d n b e f =
     ltb-true d n (holds (and_out (ltb d n) (uses S 3) (and_out (not (uses S 1)) (ltb d n && uses S 3) (true_holds (sym e ∙ f))).1).0)
 
-module _ (P : Problem) (n universal : ℕ) (near index rows : List ℕ) (st : States P n universal near index rows)
+module _ (P : Problem) (n : ℕ) (A : Arrays) (st : States P n A)
     (S c d : ℕ) (p w : List ℕ) (plays : Plays c d p w) (long : 96 ≤ length w) where
   abbrev parts : Bool → Bool → Bool → Ruling
   parts b2 b1 b3 = chain (choose b2 (explain_checks P (d - c) c p)) (chain (choose b1 (explain_arc P)) (choose b3 (explain_ahead P d)))

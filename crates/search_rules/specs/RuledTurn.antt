@@ -8,6 +8,7 @@ use Rattle.game.specs.Reasons.{Step, choose, explain_forward, explain_checks, ex
 use Rattle.solver_arrays.specs.Arrays.{States}
 use Rattle.solver_arrays.specs.Words.{list_in, why_in, holding, Nonzero}
 use Rattle.rule_arc.specs.ArcRule.{Calm}
+use Rattle.solver_arrays.specs.declared.arrays.Arrays.{Arrays}
 
 -- The words hold the list and the reasons of the step o, n of each; the reply is its loss and, where it is lost, its conflict set.
 pub record Replied (n : ℕ) (entry exit : List ℕ) (lost : Bool) (conflict : ℕ) (o : Step) : Type 0 where
@@ -43,17 +44,17 @@ pub record Plays (c d : ℕ) (p w : List ℕ) : Type 0 where
 
 -- Over the arrays of a problem, from the words w to w'. A statement of a reply holds for every problem that the arrays state, and for all plays
 -- that the words hold.
-module _ (n universal : ℕ) (near index rows : List ℕ) where
+module _ (n : ℕ) (A : Arrays) where
   -- The arrays state some problem: without one nothing is known of the words between two rules.
   pub record Stated : Type 0 where
     pub problem : Problem
-    pub states : States problem n universal near index rows
+    pub states : States problem n A
 
   -- Rule 1 in the turn above left a list in which no variable has an effect on another; since then the plays from c on have become single
   -- values, which have no effect on those before them.
   pub record Rested (c d : ℕ) (w : List ℕ) : Type 0 where
     pub single : (k : ℕ) → c ≤ k → k < d → (a : ℕ) × (a < 16) × (get_or w k 0 ≡ 2 ^ a)
-    pub calm : (x k : ℕ) → x < n → k < n → (c ≤ k → k < d → x ≤ k) → Calm near index rows universal w x k
+    pub calm : (x k : ℕ) → x < n → k < n → (c ≤ k → k < d → x ≤ k) → Calm A w x k
 
   -- Where c is not 0 there is a turn above.
   abbrev pub Settled : (S c d : ℕ) (w : List ℕ) → Type 0
@@ -62,7 +63,7 @@ module _ (n universal : ℕ) (near index rows : List ℕ) where
   -- The check of the lowest value of x leaves that value of x, and x has no effect on those behind it.
   pub record Heeded (x : ℕ) (w w' : List ℕ) : Type 0 where
     pub own : get_or w' x 0 ≡ 2 ^ lowest_of w x
-    pub later : (y : ℕ) → y < n → x < y → Calm near index rows universal w' y x
+    pub later : (y : ℕ) → y < n → x < y → Calm A w' y x
 
   -- What rule 2, where it is on, leaves without a loss, for the plays from c on, below d: values everywhere, the domains outside the mask, and
   -- one play heeded.
@@ -73,23 +74,23 @@ module _ (n universal : ℕ) (near index rows : List ℕ) where
 
   -- The check of the lowest value of x.
   pub record CheckedPlay (x : ℕ) (w w' : List ℕ) (lost : Bool) (conflict narrowed : ℕ) : Type 0 where
-    pub replies : (P : Problem) → States P n universal near index rows
+    pub replies : (P : Problem) → States P n A
         → Replied n w w' lost conflict (explain_forward P x (lowest_of w x) (list_in n w) (why_in n w))
     pub checked : Checked true x (x + 1) w w' lost narrowed
 
   -- The parts of a turn, each where `on` says so: rule 2 for the plays from c on, rule 1, and rule 3 at d.
   pub record ChecksTurn (on : Bool) (c d : ℕ) (w w' : List ℕ) (lost : Bool) (conflict narrowed : ℕ) : Type 0 where
-    pub replies : (P : Problem) → States P n universal near index rows → (p : List ℕ) → Plays c d p w
+    pub replies : (P : Problem) → States P n A → (p : List ℕ) → Plays c d p w
         → Replied n w w' lost conflict (choose on (explain_checks P (d - c) c p) (list_in n w) (why_in n w))
     pub checked : Checked on c d w w' lost narrowed
 
   pub record ArcTurn (on : Bool) (w w' : List ℕ) (lost : Bool) (conflict : ℕ) : Type 0 where
-    pub replies : (P : Problem) → States P n universal near index rows → Replied n w w' lost conflict (choose on (explain_arc P) (list_in n w) (why_in n w))
+    pub replies : (P : Problem) → States P n A → Replied n w w' lost conflict (choose on (explain_arc P) (list_in n w) (why_in n w))
     pub lasts : Lasting n w' lost
 
   abbrev pub AheadTurn : (on : Bool) (d : ℕ) (w : List ℕ) (lost : Bool) (conflict : ℕ) → Type 0
   AheadTurn on d w lost conflict =
-      (P : Problem) → States P n universal near index rows → Replied n w w lost conflict (choose on (explain_ahead P d) (list_in n w) (why_in n w))
+      (P : Problem) → States P n A → Replied n w w lost conflict (choose on (explain_ahead P d) (list_in n w) (why_in n w))
 
   -- Rule 2, or else rule 1.
   pub record RuleTurn (rule : ℕ) (on : Bool) (c d : ℕ) (w w' : List ℕ) (lost : Bool) (conflict narrowed : ℕ) : Type 0 where
@@ -99,6 +100,6 @@ module _ (n universal : ℕ) (near index rows : List ℕ) where
 
   -- All rules of the turn, by the rule set.
   pub record RuledTurn (set c d : ℕ) (w w' : List ℕ) (lost : Bool) (conflict : ℕ) : Type 0 where
-    pub replies : (P : Problem) → States P n universal near index rows → (p : List ℕ) → Plays c d p w
+    pub replies : (P : Problem) → States P n A → (p : List ℕ) → Plays c d p w
         → Replied n w w' lost conflict (explained P set c p (list_in n w) (why_in n w))
     pub lasts : Lasting n w' lost

@@ -1,29 +1,32 @@
 -- The words of a run's first turn, and runs of words in 32 places.
 use mathlib.Core.Path.{◌≡◌, refl, sym, ap, ap₂, subst, ◌∙◌}
 use mathlib.Core.Bool.{cond}
-use mathlib.Core.List.{List}
+use mathlib.Core.List.{List, ◌++◌}
 use mathlib.Core.Logic.{◌⊎◌, inl, inr, ⊎_elim}
-use Prim.Native.Nat.{ℕ, zero, suc, ◌+◌, ◌*◌, ◌^◌, ◌≤◌, ◌<◌}
+use Prim.Native.Nat.{ℕ, zero, suc, ◌+◌, ◌-◌, ◌*◌, ◌^◌, ◌≤◌, ◌<◌}
 use native.Mathlib.Omega.{arith}
 use lib.Dec.{T, ltb}
-use lib.ListN.{get_or, length, take}
+use lib.ListN.{get_or, length, take, drop, replicate, length-drop}
+use lib.Seq.{get_or-drop}
 use borrow.Author.Tests.{lt-ltb, le-ltb}
 use native.Mathlib.Numerals.{add-one}
+use Rattle.std.proofs.lemmas.List.{drop-replicate}
 use Rattle.mask.proofs.Logic.{by_eq, by_lt}
 use Rattle.game.specs.Problem.{Problem}
+use Rattle.game.specs.Lists.{list_of, spread}
 use Rattle.game.specs.Position.{legal}
 use Rattle.game.specs.Turn.{first_list}
 use Rattle.game.specs.Reasons.{first_reasons}
 use Rattle.game.specs.Turns.{TurnOf, first}
-use Rattle.theory.proofs.Lists.{list_of_same}
-use Rattle.solver_arrays.specs.declared.Variables.{Variables}
+use Rattle.theory.proofs.Lists.{list_of_same, length-list_of}
+use Rattle.solver_arrays.specs.declared.arrays.Arrays.{Arrays}
 use Rattle.solver_arrays.specs.Arrays.{Poses}
 use Rattle.solver_arrays.specs.Words.{list_in, why_in, leaf_in, reason_in, put_reason}
 use Rattle.solver_arrays.proofs.WordLaws.{length-put_reason, put_other, put_same, put_apart}
 use Rattle.position.specs.declared.Position.{Position}
 use Rattle.position.specs.Position.{plays_of, fits_in, Written}
 use Rattle.position.proofs.Fitting.{length_plays, fits-legal}
-use Rattle.position.proofs.Narrowing.{written_list, written_other}
+use Rattle.position.proofs.Narrowing.{list_of-take, written_list, written_other}
 use Rattle.search_words.proofs.ReasonBounds.{Below, below_out, first_below}
 use Rattle.search_steps.specs.TurnReply.{TurnIn}
 use Rattle.search_run.specs.FirstTurn.{ZeroBelow, words_from, own_reasons, FirstWords}
@@ -93,29 +96,37 @@ module _ (p : Position) (n : ℕ) (masks w v x : List ℕ) (m : n ≤ 32) (b : 9
   }
 
 -- They hold the first turn of a search from the position.
-module _ (P : Problem) (v : Variables) (near index rows : List ℕ) (o : Poses P v near index rows) (S : ℕ) (p : Position)
-    (m : v.n ≤ 32) (long : length p.values ≡ 32) (fits : T (fits_in p v.n v.domains)) (w x : List ℕ) (f : FirstWords p v.n v.domains w x) where
+module _ (P : Problem) (A : Arrays) (o : Poses P A) (S : ℕ) (p : Position)
+    (long : length p.values ≡ 32) (fits : T (fits_in p A.n A.domains)) (w x : List ℕ) (f : FirstWords p A.n A.domains w x) where
   pub plays_count : length (plays_of p) ≡ p.plays
-  plays_count = length_plays p v.n v.domains fits m long
+  plays_count = length_plays p A.n A.domains fits A.most long
 
   pub first-legal : T (legal P (plays_of p))
-  first-legal = fits-legal p v.n v.domains fits m long P o.states.size o.domain
+  first-legal = fits-legal p A.n A.domains fits A.most long P o.states.size o.domain
 
-  pub first-list : list_in v.n x ≡ first_list P (plays_of p)
+  pub first-list : list_in A.n x ≡ first_list P (plays_of p)
   first-list = f.list P o.states.size o.domain
 
-  pub first-why : why_in v.n x ≡ first_reasons P.n (length (plays_of p))
+  pub first-why : why_in A.n x ≡ first_reasons P.n (length (plays_of p))
   first-why = f.why ∙ ap₂ first_reasons (sym o.states.size) (sym plays_count)
 
-  pub first_in : TurnIn P v.n S 0 p.plays (plays_of p) x
+  pub first_in : TurnIn P A.n S 0 p.plays (plays_of p) x
   first_in = record {
     plays = plays_of p;
     legal-start = first-legal;
-    turn = subst (λ (l : List ℕ). TurnOf P S (plays_of p) 0 (plays_of p) l (why_in v.n x)) (sym first-list)
+    turn = subst (λ (l : List ℕ). TurnOf P S (plays_of p) 0 (plays_of p) l (why_in A.n x)) (sym first-list)
         (subst (λ (R : List ℕ). TurnOf P S (plays_of p) 0 (plays_of p) (first_list P (plays_of p)) R) (sym first-why) first);
     count = plays_count;
-    reasons = below_out v.n x (subst (Below v.n) (sym f.why) (first_below v.n p.plays));
+    reasons = below_out A.n x (subst (Below A.n) (sym f.why) (first_below A.n p.plays));
   }
+
+-- Words copied to the front of 32 zeros.
+pub places_are : (s t : ℕ) (w x : List ℕ) → s + t ≤ length w → x ≡ take (s + t - s) (drop s w) → x ++ drop t (replicate 32 0) ≡ spread (words_from s t w)
+unfolding spread words_from
+places_are s t w x b e =
+    let l : x ≡ list_of t (λ j. get_or w (s + j) 0) =
+    e ∙ ap (λ k. take k (drop s w)) (let z : s + t - s ≡ t = omega arith in z) ∙ sym (list_of_same t _ _ (λ j h. sym (get_or-drop s w j 0)) ∙ list_of-take t (drop s w) (omega (arith, length-drop s w))) in
+    ap₂ (λ (u v : List ℕ). u ++ v) l (drop-replicate t 32 0 ∙ ap (λ k. replicate (32 - k) 0) (sym (length-list_of t (λ j. get_or w (s + j) 0))))
 
 pub words-list : (n : ℕ) (w : List ℕ) → words_from 0 n w ≡ list_in n w
 unfolding words_from list_in

@@ -18,7 +18,7 @@ use Rattle.game.specs.Reasons.{first_reasons}
 use Rattle.game.specs.Search.{solved, failed, is_solved, search, search_from}
 use Rattle.theory.proofs.Lists.{list_of_same}
 use Rattle.theory.proofs.SpreadLaws.{spread_places}
-use Rattle.solver_arrays.specs.declared.Variables.{Variables}
+use Rattle.solver_arrays.specs.declared.arrays.Arrays.{Arrays}
 use Rattle.solver_arrays.specs.Arrays.{Poses, Posed}
 use Rattle.solver_arrays.specs.Words.{list_in, leaf_in}
 use Rattle.solver_arrays.proofs.WordLaws.{length-leaf_in, get_d_leaf_in}
@@ -27,7 +27,8 @@ use Rattle.position.specs.Position.{plays_of, fits_in}
 use Rattle.search_words.specs.TurnRoom.{zeroed}
 use Rattle.search_words.proofs.RoomLaws.{length-zeroed, zeroed_at, zeroed_other}
 use Rattle.search_steps.specs.declared.Outcome.{Outcome}
-use Rattle.search_steps.specs.TurnReply.{reply_in, room_of, Stands, Blank, Leaves, TurnReplies}
+use Rattle.search_steps.specs.declared.Outcome.TheVariants.{Won, Lost}
+use Rattle.search_steps.specs.TurnReply.{won_of, loss_of, set_of, reply_in, room_of, Stands, Blank, Leaves, TurnReplies}
 use Rattle.search_run.specs.declared.Ran.{Ran}
 use Rattle.search_run.specs.FirstTurn.{ZeroBelow, FirstWords}
 use Rattle.search_run.specs.Run.{room_words, leaf_shown, conflict_shown, Finds}
@@ -44,54 +45,54 @@ no_leaf n w z m =
     ∙ sym (spread_places [] (omega arith))
 
 -- What the first turn's words give to the turn: the first words w become x.
-module _ (v : Variables) (near index rows : List ℕ) (S : ℕ) (p : Position) (m : v.n ≤ 32) (long : length p.values ≡ 32) (fits : T (fits_in p v.n v.domains))
-    (w x : List ℕ) (f : FirstWords p v.n v.domains w x) where
-  pub first-stands : Posed v near index rows → Stands v.n v.universal near index rows S 0 p.plays x
+module _ (A : Arrays) (S : ℕ) (p : Position) (long : length p.values ≡ 32) (fits : T (fits_in p A.n A.domains))
+    (w x : List ℕ) (f : FirstWords p A.n A.domains w x) where
+  pub first-stands : Posed A → Stands A.n A S 0 p.plays x
   first-stands o = record {
     problem = o.problem;
     states = o.poses.states;
     plays = plays_of p;
-    turn = first_in o.problem v near index rows o.poses S p m long fits w x f;
+    turn = first_in o.problem A o.poses S p long fits w x f;
   }
 
   -- What the run finds, where the turn leaves the words y.
-  module _ (y : List ℕ) (o : Outcome) (t : TurnReplies v.n v.universal near index rows S 0 p.plays x y o) (r : Ran) (loss : r.loss ≡ o.loss) (won : r.won ≡ o.won)
-      (list : r.list ≡ spread (list_in v.n y)) (leaf : r.leaf ≡ spread (leaf_in v.n y)) (conflict : r.conflict ≡ cond o.won 0 o.conflict) (h : p.plays ≤ v.n) where
-    shown : (b : Bool) → o.won ≡ b → spread (leaf_in v.n y) ≡ leaf_shown (cond b (solved (leaf_in v.n y)) (failed o.conflict))
+  module _ (y : List ℕ) (o : Outcome) (t : TurnReplies A.n A S 0 p.plays x y o) (r : Ran) (loss : r.loss ≡ loss_of o) (won : r.won ≡ won_of o)
+      (list : r.list ≡ spread (list_in A.n y)) (leaf : r.leaf ≡ spread (leaf_in A.n y)) (conflict : r.conflict ≡ set_of o) (h : p.plays ≤ A.n) where
+    shown : (b : Bool) → won_of o ≡ b → spread (leaf_in A.n y) ≡ leaf_shown (cond b (solved (leaf_in A.n y)) (failed (set_of o)))
     unfolding leaf_shown
     shown true e = refl
-    shown false e = no_leaf v.n y (λ k l u. t.room.lost e k l (omega arith)) m
+    shown false e = no_leaf A.n y (λ k l u. t.room.lost e k l (omega arith)) A.most
 
-    told : (b : Bool) → cond b 0 o.conflict ≡ conflict_shown (cond b (solved (leaf_in v.n y)) (failed o.conflict))
+    told : (u : Outcome) → set_of u ≡ conflict_shown (cond (won_of u) (solved (leaf_in A.n y)) (failed (set_of u)))
     unfolding conflict_shown
-    told true = refl
-    told false = refl
+    told Won = refl
+    told (Lost by q) = refl
 
-    solved_is : (b : Bool) → b ≡ is_solved (cond b (solved (leaf_in v.n y)) (failed o.conflict))
+    solved_is : (b : Bool) → b ≡ is_solved (cond b (solved (leaf_in A.n y)) (failed (set_of o)))
     solved_is true = refl
     solved_is false = refl
 
-    module _ (P : Problem) (q : Poses P v near index rows) where
-      verdict : search_from P S (plays_of p) ≡ cond o.won (solved (leaf_in v.n y)) (failed o.conflict)
+    module _ (P : Problem) (q : Poses P A) where
+      verdict : search_from P S (plays_of p) ≡ cond (won_of o) (solved (leaf_in A.n y)) (failed (set_of o))
       unfolding search_from reply_in
       verdict =
-          let c = plays_count P v near index rows q S p m long fits w x f in
-          let e : P.n - length (plays_of p) ≡ v.n - p.plays = ap₂ (λ (a b : ℕ). a - b) q.states.size c in
+          let c = plays_count P A q S p long fits w x f in
+          let e : P.n - length (plays_of p) ≡ A.n - p.plays = ap₂ (λ (a b : ℕ). a - b) q.states.size c in
           ap (λ k. search P S 0 k (plays_of p) (first_list P (plays_of p)) (first_reasons P.n (length (plays_of p)))) e
-          ∙ ap₂ (λ (l R : List ℕ). search P S 0 (v.n - p.plays) (plays_of p) l R)
-          (sym (first-list P v near index rows q S p m long fits w x f)) (sym (first-why P v near index rows q S p m long fits w x f))
-          ∙ t.reply P q.states (plays_of p) (first_in P v near index rows q S p m long fits w x f)
+          ∙ ap₂ (λ (l R : List ℕ). search P S 0 (A.n - p.plays) (plays_of p) l R)
+          (sym (first-list P A q S p long fits w x f)) (sym (first-why P A q S p long fits w x f))
+          ∙ t.reply P q.states (plays_of p) (first_in P A q S p long fits w x f)
 
       pub run_finds : Finds P S p r
       run_finds =
-          let a = t.reach P q.states (plays_of p) (first_in P v near index rows q S p m long fits w x f) in
-          let l = first-list P v near index rows q S p m long fits w x f in
+          let a = t.reach P q.states (plays_of p) (first_in P A q S p long fits w x f) in
+          let l = first-list P A q S p long fits w x f in
           record {
             loss = loss ∙ a.loss ∙ ap (λ (l : List ℕ). (reached P S 0 (plays_of p) l).loss) l;
             list = list ∙ ap spread (a.list ∙ ap (λ (l : List ℕ). (reached P S 0 (plays_of p) l).list) l);
-            won = won ∙ solved_is o.won ∙ sym (ap is_solved verdict);
-            conflict = conflict ∙ told o.won ∙ sym (ap conflict_shown verdict);
-            leaf = leaf ∙ shown o.won refl ∙ sym (ap leaf_shown verdict);
+            won = won ∙ solved_is (won_of o) ∙ sym (ap is_solved verdict);
+            conflict = conflict ∙ told o ∙ sym (ap conflict_shown verdict);
+            leaf = leaf ∙ shown (won_of o) refl ∙ sym (ap leaf_shown verdict);
           }
 
 -- The room: blank before the turn, and as it was after it, since the turn leaves zeros behind its own words and these are cleared.

@@ -1,11 +1,11 @@
 -- What a run of the search from a position finds.
-use Rattle.std.specs.Prelude.{◌≡◌, List, [], ℕ, ◌+◌, ◌*◌, ◌≤◌, T}
+use Rattle.std.specs.Prelude.{◌≡◌, List, [], ℕ, ◌+◌, ◌*◌, T}
 use Rattle.game.specs.Lists.{spread}
 use Rattle.game.specs.Problem.{Problem}
 use Rattle.game.specs.Turn.{first_list, reached}
 use Rattle.game.specs.Search.{Ending, solved, failed, is_solved, search_from}
-use Rattle.solver_arrays.specs.declared.Variables.{Variables}
-use Rattle.solver_arrays.specs.Arrays.{InRange, Poses, Posed}
+use Rattle.solver_arrays.specs.declared.arrays.Arrays.{Arrays}
+use Rattle.solver_arrays.specs.Arrays.{Poses, Posed}
 use Rattle.position.specs.declared.Position.{Position}
 use Rattle.position.specs.Position.{plays_of, fits_in}
 use Rattle.search_run.specs.declared.Ran.{Ran}
@@ -21,13 +21,6 @@ room_needed P = room_words P.n
 -- "these entries bring their own room": as many words as a file of 32 variables needs.
 abbrev pub held_room : ℕ
 held_room = room_words 32
-
--- What a search is given of which the first n variables are to play: the arrays state some problem over the variables v.
-pub record Searchable (n : ℕ) (v : Variables) (near index rows : List ℕ) : Type 0 where
-  pub own : n ≤ v.n
-  pub most : v.n ≤ 32
-  pub range : InRange index
-  pub posed : Posed v near index rows
 
 -- The leaf of a verdict in 32 places; zeros where it is lost.
 unfoldable pub leaf_shown : Ending → List ℕ
@@ -48,13 +41,11 @@ pub record Finds (P : Problem) (S : ℕ) (p : Position) (r : Ran) : Type 0 where
   pub conflict : r.conflict ≡ conflict_shown (search_from P S (plays_of p))
   pub leaf : r.leaf ≡ leaf_shown (search_from P S (plays_of p))
 
--- What a run is given: the arrays state some problem over the start's variables, and its position fits them.
-pub record Startable (s : Start) (near index rows : List ℕ) : Type 0 where
-  pub most : s.variables.n ≤ 32
-  pub fits : T (fits_in s.position s.variables.n s.variables.domains)
-  pub range : InRange index
-  pub posed : Posed s.variables near index rows
+-- What a run is given: the arrays state some problem, and its position fits them.
+pub record Startable (s : Start) (A : Arrays) : Type 0 where
+  pub fits : T (fits_in s.position A.n A.domains)
+  pub posed : Posed A
 
--- In every problem that the arrays state over the variables v.
-abbrev pub Runs : (v : Variables) (near index rows : List ℕ) (S : ℕ) (p : Position) (r : Ran) → Type 0
-Runs v near index rows S p r = (P : Problem) → Poses P v near index rows → Finds P S p r
+-- In every problem that the arrays state.
+abbrev pub Runs : (A : Arrays) (S : ℕ) (p : Position) (r : Ran) → Type 0
+Runs A S p r = (P : Problem) → Poses P A → Finds P S p r

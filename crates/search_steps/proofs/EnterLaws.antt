@@ -22,6 +22,7 @@ use Rattle.rule_narrow.specs.Narrow.{NarrowsNext}
 use Rattle.rule_skip.specs.Skip.{Skips}
 use Rattle.search_rules.specs.RuledTurn.{Replied}
 use Rattle.search_steps.specs.TurnSteps.{Enters, LeavesUntried}
+use Rattle.solver_arrays.specs.declared.arrays.Arrays.{Arrays}
 
 -- Words behind the reasons stay.
 holding_behind : (n : ℕ) → n ≤ 32 → (w l R : List ℕ) (k : ℕ) → 96 ≤ k → get_or (holding n w l R) k 0 ≡ get_or w k 0
@@ -38,7 +39,7 @@ module _ {n : ℕ} {w v : List ℕ} {lost : Bool} {q : ℕ} {o : Step} where
   pub replied_behind : n ≤ 32 → Replied n w v lost q o → (k : ℕ) → 96 ≤ k → get_or v k 0 ≡ get_or w k 0
   replied_behind m R k h = ap (λ x. get_or x k 0) R.words ∙ holding_behind n m w o.list o.why k h
 
-module _ (P : Problem) (n universal : ℕ) (near index rows : List ℕ) (st : States P n universal near index rows) (S c d : ℕ) (p w : List ℕ) (b : 96 ≤ length w) where
+module _ (P : Problem) (n : ℕ) (A : Arrays) (st : States P n A) (S c d : ℕ) (p w : List ℕ) (b : 96 ≤ length w) where
   -- The rules found a loss.
   pub enters_lost : (v : List ℕ) (lost : Bool) (q : ℕ) → Replied n w v lost q (explained P S c p (list_in n w) (why_in n w)) → lost ≡ true
       → (left : ℕ) (narrowed : Bool) → Enters P n S c d p w v true q left narrowed
@@ -60,7 +61,7 @@ module _ (P : Problem) (n universal : ℕ) (near index rows : List ℕ) (st : St
 
   -- They found none, and the variable was narrowed from the words v to the words x.
   pub enters_on : (v x : List ℕ) (lost : Bool) (q : ℕ) → Replied n w v lost q (explained P S c p (list_in n w) (why_in n w)) → lost ≡ false → d < n
-      → (four five : Bool) → four ≡ uses S 4 → five ≡ uses S 5 → NarrowsNext near index rows n universal four five d v x
+      → (four five : Bool) → four ≡ uses S 4 → five ≡ uses S 5 → NarrowsNext n A four five d v x
       → (before left : ℕ) (narrowed : Bool) → before ≡ get_or v d 0 → left ≡ get_or x d 0 → narrowed ≡ not (eqb left before) → (q' : ℕ)
       → Enters P n S c d p w x false q' left narrowed
   enters_on v x lost q R t h four five f g N before left narrowed eb el en q' =
@@ -86,13 +87,13 @@ module _ (P : Problem) (n universal : ℕ) (near index rows : List ℕ) (st : St
       }
 
 -- What is left to try where nothing is untried, with rule 7 and without.
-module _ (n universal : ℕ) (near index rows : List ℕ) (S d left a : ℕ) (w : List ℕ) (m : ℕ) (q : m ≡ untried (bit 0) a left) where
-  pub leaves_none : m ≡ 0 → LeavesUntried n universal near index rows S d left a w 0
+module _ (n : ℕ) (A : Arrays) (S d left a : ℕ) (w : List ℕ) (m : ℕ) (q : m ≡ untried (bit 0) a left) where
+  pub leaves_none : m ≡ 0 → LeavesUntried n A S d left a w 0
   leaves_none z = λ P st small. untried_none (λ b. uses S 7 && skippable P (list_in n w) d (leaf_in n w) b) a left m q z
 
   module _ (on : Bool) (o : on ≡ uses S 7) where
-    pub leaves_used : on ≡ true → (s r : ℕ) → Skips near index rows n universal d m w s → r ≡ untried (bit s) a left → LeavesUntried n universal near index rows S d left a w r
+    pub leaves_used : on ≡ true → (s r : ℕ) → Skips n A d m w s → r ≡ untried (bit s) a left → LeavesUntried n A S d left a w r
     leaves_used t s r k e = λ P st small. e ∙ untried_used (uses S 7) (skippable P (list_in n w) d (leaf_in n w)) a left m s (sym o ∙ t) q (k P st small)
 
-    pub leaves_off : on ≡ false → LeavesUntried n universal near index rows S d left a w m
+    pub leaves_off : on ≡ false → LeavesUntried n A S d left a w m
     leaves_off t = λ P st small. q ∙ untried_off (uses S 7) (skippable P (list_in n w) d (leaf_in n w)) a left 0 (sym o ∙ t) refl

@@ -11,6 +11,7 @@ use lib.Pow.{pow_mono}
 use lib.ListN.{get_or, length}
 use lib.Seq.{ext_get_or}
 use borrow.Author.Tests.{eq-eqb, ne_eqb}
+use Rattle.std.specs.Prelude.{Option, None, Some}
 use Rattle.mask.proofs.Logic.{holds, test, by_eq, by_lt}
 use Rattle.game.specs.Problem.{Problem}
 use Rattle.game.specs.Game.{satisfied}
@@ -25,9 +26,9 @@ use Rattle.solver_arrays.specs.Arrays.{States}
 use Rattle.solver_arrays.specs.Words.{list_in, why_in, leaf_in}
 use Rattle.solver_arrays.proofs.WordLaws.{length-list_in, get_d_list_in}
 use Rattle.search_leaf.specs.Leaf.{Plays, broken_mask, with_leaf}
-use Rattle.search_leaf.proofs.BrokenLaws.{broken-some}
 use Rattle.search_leaf.proofs.LeafWords.{length-with_leaf, with_leaf_other, leaf_small, leaf_of_play}
 use Rattle.search_steps.specs.TurnReply.{reply_in, room_of, TurnIn, TellsBroken, Blank, Leaves}
+use Rattle.solver_arrays.specs.declared.arrays.Arrays.{Arrays}
 
 -- Every played variable has the mask of its value.
 pub played : (P : Problem) (n S c d : ℕ) (p w : List ℕ) → ((k : ℕ) → get_or w k 0 < 65536) → P.n ≡ n → TurnIn P n S c d p w
@@ -40,7 +41,7 @@ played P n S c d p w small size turn j h =
     let s = small j in
     (by_lt (get_or p j 0) 16 (λ l. l) (λ u. absurd (let q : 2 ^ 16 ≤ 2 ^ get_or p j 0 = pow_mono u in omega arith)), e)
 
-module _ (P : Problem) (n universal : ℕ) (near index rows : List ℕ) (st : States P n universal near index rows) (S c : ℕ) (p w : List ℕ)
+module _ (P : Problem) (n : ℕ) (A : Arrays) (st : States P n A) (S c : ℕ) (p w : List ℕ)
     (small : (k : ℕ) → get_or w k 0 < 65536) (turn : TurnIn P n S c n p w) where
   pub all_played : Plays n w p
   all_played = record {
@@ -50,10 +51,10 @@ module _ (P : Problem) (n universal : ℕ) (near index rows : List ℕ) (st : St
   }
 
   -- None is broken below a turn with rule 1.
-  pub skipped_told : uses S 1 ≡ true → ¬ (c ≡ 0) → 0 ≡ broken_mask P n p
+  pub skipped_told : uses S 1 ≡ true → ¬ (c ≡ 0) → None ≡ broken_mask P n p
   skipped_told one z =
       let all = turn_unbroken P S turn.plays turn.legal-start c p (list_in n w) (why_in n w) turn.turn one z (turn.count ∙ sym st.size) in
-      ap (λ (b : Bool). cond b 0 (first_broken P p)) (sym (holds {b = satisfied P.compatible n (play_of p)} (subst (λ k. T (satisfied P.compatible k (play_of p))) st.size all)))
+      ap (λ (b : Bool). cond b None (Some (first_broken P p))) (sym (holds {b = satisfied P.compatible n (play_of p)} (subst (λ k. T (satisfied P.compatible k (play_of p))) st.size all)))
 
   -- The conflict set of rule 2.
   abbrev own : ℕ
@@ -82,48 +83,48 @@ module _ (P : Problem) (n universal : ℕ) (near index rows : List ℕ) (st : St
       (λ h. ap (λ b. cond (b && uses S 2) conflict 0) (ne_eqb c 0 h)
       ∙ sym (below_finds_none P S turn.plays turn.legal-start c p (list_in n w) (why_in n w) turn.turn (turn.count ∙ sym size) h))
 
-  module _ (broken : ℕ) (tells : TellsBroken n universal near index rows S c w broken) where
+  module _ (broken : Option ℕ) (tells : TellsBroken n A S c w broken) where
     told : broken ≡ broken_mask P n p
     told = tells P st p turn
 
     -- No constraint is broken.
-    unbroken : broken ≡ 0 → satisfied P.compatible n (play_of p) ≡ true
+    unbroken : broken ≡ None → satisfied P.compatible n (play_of p) ≡ true
     unbroken z = go (satisfied P.compatible n (play_of p)) (sym told ∙ z)
       where
-        go : (s : Bool) → cond s 0 (first_broken P p) ≡ 0 → s ≡ true
+        go : (s : Bool) → cond s None (Some (first_broken P p)) ≡ None → s ≡ true
         go true r = refl
-        go false r = absurd (broken-some P p r)
+        go false r = absurd (cc)
 
-    pub holds_all : broken ≡ 0 → T (satisfied P.compatible P.n (play_of p))
+    pub holds_all : broken ≡ None → T (satisfied P.compatible P.n (play_of p))
     holds_all z = subst (λ k. T (satisfied P.compatible k (play_of p))) (sym st.size) (subst (λ b. T b) (sym (unbroken z)) tt)
 
-    pub last-won : broken ≡ 0 → 128 ≤ length w → n ≤ 32 → (w' : List ℕ) → w' ≡ with_leaf n w → (q : ℕ)
+    pub last-won : broken ≡ None → 128 ≤ length w → n ≤ 32 → (w' : List ℕ) → w' ≡ with_leaf n w → (q : ℕ)
         → search P S c (n - n) p (list_in n w) (why_in n w) ≡ reply_in n true q w'
     unfolding reply_in
     last-won z b m w' e q =
         reply ∙ ap (λ s. cond s (solved p) (failed (handed (uses S 6) n (bit_or (first_broken P p) own)))) (unbroken z)
         ∙ ap solved (sym (ap (leaf_in n) e ∙ leaf_of_play n w p (omega arith) all_played))
 
-    -- Some constraint is broken, and broken is its mask.
-    lost_by : ¬ (broken ≡ 0) → (satisfied P.compatible n (play_of p) ≡ false) × (broken ≡ first_broken P p)
-    lost_by z = go (satisfied P.compatible n (play_of p)) told
+    -- Some constraint is broken, and m is its mask.
+    lost_by : (m : ℕ) → broken ≡ Some m → (satisfied P.compatible n (play_of p) ≡ false) × (m ≡ first_broken P p)
+    lost_by m z = go (satisfied P.compatible n (play_of p)) (sym z ∙ told)
       where
-        go : (s : Bool) → broken ≡ cond s 0 (first_broken P p) → (s ≡ false) × (broken ≡ first_broken P p)
-        go true r = absurd (z r)
-        go false r = (refl, r)
+        go : (s : Bool) → Some m ≡ cond s None (Some (first_broken P p)) → (s ≡ false) × (m ≡ first_broken P p)
+        go true r = absurd (cc)
+        go false r = (refl, cc)
 
     -- The reply of the code: `lost` and `conflict` are those of its rules.
-    pub last_lost : ¬ (broken ≡ 0) → (lost : Bool) (conflict : ℕ) → lost ≡ (explained P S c p (list_in n w) (why_in n w)).loss
+    pub last_lost : (m : ℕ) → broken ≡ Some m → (lost : Bool) (conflict : ℕ) → lost ≡ (explained P S c p (list_in n w) (why_in n w)).loss
         → (lost ≡ true → conflict ≡ (explained P S c p (list_in n w) (why_in n w)).set)
         → (checked : ℕ) → checked ≡ cond (eqb c 0 && uses S 2) conflict 0
-        → (six : Bool) → six ≡ uses S 6 → (set : ℕ) → set ≡ handed six n (bit_or broken checked) → (w' : List ℕ)
+        → (six : Bool) → six ≡ uses S 6 → (set : ℕ) → set ≡ handed six n (bit_or m checked) → (w' : List ℕ)
         → search P S c (n - n) p (list_in n w) (why_in n w) ≡ reply_in n false set w'
     unfolding reply_in
-    last_lost z lost conflict loss found checked k six s set e w' =
-        let b = lost_by z in
+    last_lost m z lost conflict loss found checked k six s set e w' =
+        let b = lost_by m z in
         reply ∙ ap (λ s. cond s (solved p) (failed (handed (uses S 6) n (bit_or (first_broken P p) own)))) b.0
         ∙ ap (λ U. failed (handed (uses S 6) n U)) (ap₂ bit_or (sym b.1) (sym (k ∙ own-set b.0 lost conflict loss found)))
-        ∙ ap failed (sym (e ∙ ap (λ b. handed b n (bit_or broken checked)) s))
+        ∙ ap failed (sym (e ∙ ap (λ b. handed b n (bit_or m checked)) s))
 
 -- The room, with a leaf and without.
 module _ (n : ℕ) (w w' : List ℕ) (m : n ≤ 32) (b : 128 ≤ length w) (blank : Blank 128 w) where

@@ -19,8 +19,13 @@ use Rattle.solver_arrays.proofs.WordLaws.{list_in-holding}
 use Rattle.search_rules.specs.RuledTurn.{Replied}
 use Rattle.search_steps.specs.TurnReply.{TurnIn, Reaches}
 use Rattle.search_steps.specs.TurnSteps.{Enters}
+use Rattle.solver_arrays.specs.declared.arrays.Arrays.{Arrays}
 
-module _ (P : Problem) (n universal : ℕ) (near index rows : List ℕ) (st : States P n universal near index rows) (S c d : ℕ) (p w w' : List ℕ) (t : TurnIn P n S c d p w) where
+-- The same of a test that says whether the rules found a loss.
+pub reach_by : {P : Problem} {n S c : ℕ} {p w w' : List ℕ} (b lost : Bool) → b ≡ lost → Reaches P n S c p w w' lost → Reaches P n S c p w w' b
+reach_by b lost e r = record { loss = e ∙ r.loss; list = r.list }
+
+module _ (P : Problem) (n : ℕ) (A : Arrays) (st : States P n A) (S c d : ℕ) (p w w' : List ℕ) (t : TurnIn P n S c d p w) where
   same_loss : (explained P S c p (list_in n w) (why_in n w)).loss ≡ (reached P S c p (list_in n w)).loss
   same_loss = theorems.turn-loss P S t.plays t.legal-start c p (list_in n w) (why_in n w) t.turn
 

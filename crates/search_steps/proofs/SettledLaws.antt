@@ -9,16 +9,17 @@ use Rattle.rule_arc.proofs.QuietLaws.{calm_in}
 use Rattle.search_rules.specs.RuledTurn.{Settled}
 use Rattle.search_steps.specs.TurnReply.{Stands}
 use Rattle.search_steps.proofs.StandLaws.{plays_in}
+use Rattle.solver_arrays.specs.declared.arrays.Arrays.{Arrays}
 
-pub settled : (n universal : ℕ) (near index rows : List ℕ) (S c d : ℕ) (w : List ℕ) → ((k : ℕ) → get_or w k 0 < 65536) → Stands n universal near index rows S c d w → Settled n universal near index rows S c d w
-settled n universal near index rows S c d w small s one z =
+pub settled : (n : ℕ) (A : Arrays) (S c d : ℕ) (w : List ℕ) → ((k : ℕ) → get_or w k 0 < 65536) → Stands n A S c d w → Settled n A S c d w
+settled n A S c d w small s one z =
     let P = s.problem in
     let t = s.turn in
-    let plays = plays_in P n universal near index rows s.states S c d s.plays w small t in
+    let plays = plays_in P n A s.states S c d s.plays w small t in
     let e = t.count in
     let g = s.states.size in
     record {
       single = λ k l m. (get_or s.plays k 0, plays.value k l m, plays.word k l m);
-      calm = λ x k lx lk o. calm_in P n universal near index rows s.states w small x k lx lk
+      calm = λ x k lx lk o. calm_in P n A s.states w small x k lx lk
           (turn_quiet P S t.plays t.legal-start c s.plays (list_in n w) (why_in n w) t.turn one z x k (omega arith) (omega arith) (λ i j. o i (omega arith)));
     }

@@ -26,20 +26,20 @@ use Rattle.solver_arrays.proofs.WordLaws.{get_d_list_in, get_d_leaf_in}
 use Rattle.rule_skip.specs.Skip.{LeafSmall, LeafHolds}
 use Rattle.rule_skip.proofs.SkipLaws.{near_above}
 use Rattle.search_rules.specs.RuledTurn.{Stated, Plays}
-use Rattle.search_steps.specs.declared.Outcome.{Outcome}
-use Rattle.search_steps.specs.TurnReply.{TurnIn, Stands, TurnReplies}
+use Rattle.search_steps.specs.TurnReply.{TurnIn, Stands}
 use Rattle.search_steps.proofs.LastLaws.{played}
+use Rattle.solver_arrays.specs.declared.arrays.Arrays.{Arrays}
 
-pub plays_in : (P : Problem) (n universal : ℕ) (near index rows : List ℕ) → States P n universal near index rows → (S c d : ℕ) (p w : List ℕ)
+pub plays_in : (P : Problem) (n : ℕ) (A : Arrays) → States P n A → (S c d : ℕ) (p w : List ℕ)
     → ((k : ℕ) → get_or w k 0 < 65536) → TurnIn P n S c d p w → Plays c d p w
-plays_in P n universal near index rows st S c d p w small turn = record {
+plays_in P n A st S c d p w small turn = record {
   count = turn.count;
   value = λ j _ h. (played P n S c d p w small st.size turn j h).0;
   word = λ j _ h. (played P n S c d p w small st.size turn j h).1;
 }
 
-module _ (n universal : ℕ) (near index rows : List ℕ) (S c d : ℕ) (w : List ℕ) (s : Stands n universal near index rows S c d w) where
-  pub stated : Stated n universal near index rows
+module _ (n : ℕ) (A : Arrays) (S c d : ℕ) (w : List ℕ) (s : Stands n A S c d w) where
+  pub stated : Stated n A
   stated = record { problem = s.problem; states = s.states }
 
   pub checked : c ≤ d
@@ -58,12 +58,12 @@ module _ (n universal : ℕ) (near index rows : List ℕ) (S c d : ℕ) (w : Lis
       clash (bit_of_zero f.0) (subst (λ m. T (bit m f.0)) (get_d_list_in n w j h ∙ z) f.1.1)
 
 -- The leaf that a turn hands up breaks no constraint, in whatever words it stands.
-pub leaf_holds : (P : Problem) (n universal : ℕ) (near index rows : List ℕ) → States P n universal near index rows → (S c d : ℕ) (p w : List ℕ) → TurnIn P n S c d p w
+pub leaf_holds : (P : Problem) (n : ℕ) (A : Arrays) → States P n A → (S c d : ℕ) (p w : List ℕ) → TurnIn P n S c d p w
     → (q : List ℕ) → search P S c (n - d) p (list_in n w) (why_in n w) ≡ solved q
-    → (r : List ℕ) → leaf_in n r ≡ q → LeafSmall n r → LeafHolds n near index rows r
+    → (r : List ℕ) → leaf_in n r ≡ q → LeafSmall n r → LeafHolds n A r
 unfolding satisfied play_of
-leaf_holds P n universal near index rows st S c d p w turn q e r f small j h k t =
-    let a = near_above P n universal near index rows st j k h t in
+leaf_holds P n A st S c d p w turn q e r f small j h k t =
+    let a = near_above P n A st j k h t in
     subst T (st.row j (value j) k (value k) h (omega arith) a.1 (omega arith)) (subst (λ x. T (P.compatible j x k (value k))) (is j h) (subst (λ x. T (P.compatible j (get_or q j 0) k x)) (is k a.1) (pair a.0 a.1)))
   where
     value : ℕ → ℕ
@@ -81,11 +81,3 @@ leaf_holds P n universal near index rows st S c d p w turn q e r f small j h k t
         let z = st.size in
         each_out k (λ j. true) (λ j. P.compatible j (get_or q j 0) k (get_or q k 0))
         (each_out P.n (λ k. true) (λ k. each k (λ j. true) (λ j. P.compatible j (get_or q j 0) k (get_or q k 0))) all k (omega arith) tt) j l tt
-
--- All variables are played: what is said at d is said at n.
-module _ (n universal : ℕ) (near index rows : List ℕ) (S c d : ℕ) (w : List ℕ) (e : d ≡ n) where
-  pub last-stands : Stands n universal near index rows S c d w → Stands n universal near index rows S c n w
-  last-stands s = subst (λ k. Stands n universal near index rows S c k w) e s
-
-  pub last_replies : (w' : List ℕ) (o : Outcome) → TurnReplies n universal near index rows S c n w w' o → TurnReplies n universal near index rows S c d w w' o
-  last_replies w' o r = subst (λ k. TurnReplies n universal near index rows S c k w w' o) (sym e) r

@@ -1,19 +1,15 @@
--- The test of rule 6 after a loss below, what is handed up, and the set of rule 2 in a last turn.
+-- The test of rule 6 after a loss below, and the set of rule 2 in a last turn.
 use mathlib.Core.Path.{◌≡◌, sym, ap, ap₂, ◌∙◌}
 use mathlib.Core.Bool.{Bool, true, false, cond, not, ◌&&◌}
 use Prim.Native.Nat.{ℕ}
 use lib.Dec.{eqb}
 use borrow.Author.Tests.{eq-eqb, ne_eqb}
-use Rattle.game.specs.Search.{handed}
 
 pub jump_on : (on u y b : Bool) → on ≡ u → on ≡ true → y ≡ b → not y ≡ (u && not b)
 jump_on on u y b e t q = ap₂ (λ v x. v && not x) (sym t ∙ e) q
 
 pub jump_off : (on u b : Bool) → on ≡ u → on ≡ false → false ≡ (u && b)
 jump_off on u b e t = ap (λ v. v && b) (sym t ∙ e)
-
-pub handed_by : (on u : Bool) (d S q : ℕ) → on ≡ u → q ≡ handed on d S → q ≡ handed u d S
-handed_by on u d S q e h = h ∙ ap (λ b. handed b d S) e
 
 -- The set m is rule 2's own in a first turn where the rule is used.
 pub own_used : (c m : ℕ) (on u : Bool) → c ≡ 0 → on ≡ u → on ≡ true → m ≡ cond (eqb c 0 && u) m 0

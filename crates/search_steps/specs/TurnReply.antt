@@ -1,6 +1,6 @@
 -- What a turn of the search replies and leaves in its room: whether its rules found a loss and the list that they reached are `reached` of the game;
 -- the verdict is `search` of the game. List and leaf stand in the turn's words.
-use Rattle.std.specs.Prelude.{◌≡◌, Bool, false, cond, List, ℕ, ◌+◌, ◌-◌, ◌*◌, ◌≤◌, ◌<◌, T, get_or, length}
+use Rattle.std.specs.Prelude.{◌≡◌, Bool, true, false, cond, List, ℕ, ◌+◌, ◌-◌, ◌*◌, ◌≤◌, ◌<◌, T, get_or, length, Option}
 use Rattle.game.specs.Problem.{Problem}
 use Rattle.game.specs.Position.{legal}
 use Rattle.game.specs.Turn.{reached}
@@ -11,6 +11,21 @@ use Rattle.solver_arrays.specs.Words.{list_in, why_in, leaf_in}
 use Rattle.search_leaf.specs.Leaf.{broken_mask}
 use Rattle.search_words.specs.TurnSets.{ReasonsBelow}
 use Rattle.search_steps.specs.declared.Outcome.{Outcome}
+use Rattle.search_steps.specs.declared.Outcome.TheVariants.{Won, Lost}
+use Rattle.solver_arrays.specs.declared.arrays.Arrays.{Arrays}
+
+-- Whether the turn is won, whether its rules found a loss, and its conflict set; none where it is won.
+abbrev pub won_of : Outcome → Bool
+won_of Won = true
+won_of (Lost ruled conflict) = false
+
+abbrev pub loss_of : Outcome → Bool
+loss_of Won = false
+loss_of (Lost ruled conflict) = ruled
+
+abbrev pub set_of : Outcome → ℕ
+set_of Won = 0
+set_of (Lost ruled conflict) = conflict
 
 -- The reply in numbers and words: won with the leaf in the words, or lost with the conflict set.
 unfoldable pub reply_in : ℕ → Bool → ℕ → List ℕ → Ending
@@ -47,23 +62,23 @@ pub record Reaches (P : Problem) (n S c : ℕ) (p w w' : List ℕ) (lost : Bool)
   pub loss : lost ≡ (reached P S c p (list_in n w)).loss
   pub list : list_in n w' ≡ (reached P S c p (list_in n w)).list
 
-module _ (n universal : ℕ) (near index rows : List ℕ) where
+module _ (n : ℕ) (A : Arrays) where
   -- The words w hold a turn of some problem that the arrays state, and some plays. Without them nothing is known of the words between two steps
   -- of a turn.
   pub record Stands (S c d : ℕ) (w : List ℕ) : Type 0 where
     pub problem : Problem
-    pub states : States problem n universal near index rows
+    pub states : States problem n A
     pub plays : List ℕ
     pub turn : TurnIn problem n S c d plays w
 
-  -- At the last turn, the mask r says which constraint the play breaks first, or none.
-  abbrev pub TellsBroken : (S c : ℕ) (w : List ℕ) (r : ℕ) → Type 0
-  TellsBroken S c w r = (P : Problem) → States P n universal near index rows → (p : List ℕ) → TurnIn P n S c n p w
+  -- At the last turn, the mask r tells the constraint that the play breaks first.
+  abbrev pub TellsBroken : (S c : ℕ) (w : List ℕ) (r : Option ℕ) → Type 0
+  TellsBroken S c w r = (P : Problem) → States P n A → (p : List ℕ) → TurnIn P n S c n p w
       → r ≡ broken_mask P n p
 
   -- What a turn replies and leaves, for every problem that the arrays state and all plays of a turn that the words hold.
   pub record TurnReplies (S c d : ℕ) (w w' : List ℕ) (o : Outcome) : Type 0 where
-    pub reach : (P : Problem) → States P n universal near index rows → (p : List ℕ) → TurnIn P n S c d p w → Reaches P n S c p w w' o.loss
-    pub reply : (P : Problem) → States P n universal near index rows → (p : List ℕ) → TurnIn P n S c d p w
-        → search P S c (n - d) p (list_in n w) (why_in n w) ≡ reply_in n o.won o.conflict w'
-    pub room : Leaves n (room_of n d) o.won w w'
+    pub reach : (P : Problem) → States P n A → (p : List ℕ) → TurnIn P n S c d p w → Reaches P n S c p w w' (loss_of o)
+    pub reply : (P : Problem) → States P n A → (p : List ℕ) → TurnIn P n S c d p w
+        → search P S c (n - d) p (list_in n w) (why_in n w) ≡ reply_in n (won_of o) (set_of o) w'
+    pub room : Leaves n (room_of n d) (won_of o) w w'

@@ -23,6 +23,7 @@ use Rattle.search_words.specs.TurnSets.{ReasonsBelow}
 use Rattle.search_rules.specs.RuledTurn.{Stated}
 use Rattle.search_steps.specs.TurnReply.{TurnIn, Blank}
 use Rattle.search_turns.proofs.RoomTurns.{Mid, Leafless, mid_start}
+use Rattle.solver_arrays.specs.declared.arrays.Arrays.{Arrays}
 
 -- What the turn below replies where value a of d is played over the words x.
 abbrev pub reply_below : Problem → ℕ → ℕ → ℕ → List ℕ → List ℕ → ℕ → Ending
@@ -35,32 +36,32 @@ Tries P n S d p left x =
     → TurnIn P n S d (suc d) (p ++ (a ∷ [])) y
 
 -- The existential turn: what is left of the mask, from the set so far, replies what all does from the first set.
-pub record SomeLoop (n universal : ℕ) (near index rows : List ℕ) (S d t : ℕ) (x : List ℕ) (J₀ left₀ : ℕ) (y : List ℕ) (J left : ℕ) : Type 0 where
+pub record SomeLoop (n : ℕ) (A : Arrays) (S d t : ℕ) (x : List ℕ) (J₀ left₀ : ℕ) (y : List ℕ) (J left : ℕ) : Type 0 where
   pub mid : Mid n t x y
   pub bare : Leafless y
   pub small : left < 2 ^ 16
   pub part : (a : ℕ) → T (bit left a) → T (bit left₀ a)
-  pub same : (P : Problem) → States P n universal near index rows → (p : List ℕ) → Tries P n S d p left₀ x
+  pub same : (P : Problem) → States P n A → (p : List ℕ) → Tries P n S d p left₀ x
       → some_value (uses S 6) d left (reply_below P n S d p x) 16 0 J ≡ some_value (uses S 6) d left₀ (reply_below P n S d p x) 16 0 J₀
 
 -- The universal turn: what is untried, from the leaf in the words, replies what all does from the plays; before the first value no leaf stands.
-pub record EachLoop (n universal : ℕ) (near index rows : List ℕ) (S d t : ℕ) (x : List ℕ) (left₀ : ℕ) (y : List ℕ) (left : ℕ) : Type 0 where
+pub record EachLoop (n : ℕ) (A : Arrays) (S d t : ℕ) (x : List ℕ) (left₀ : ℕ) (y : List ℕ) (left : ℕ) : Type 0 where
   pub mid : Mid n t x y
   pub small : left < 2 ^ 16
   pub part : (a : ℕ) → T (bit left a) → T (bit left₀ a)
-  pub same : (P : Problem) → States P n universal near index rows → (p : List ℕ) → Tries P n S d p left₀ x → (q : List ℕ) → (left ≡ left₀ → q ≡ p) → (¬ (left ≡ left₀) → q ≡ leaf_in n y)
+  pub same : (P : Problem) → States P n A → (p : List ℕ) → Tries P n S d p left₀ x → (q : List ℕ) → (left ≡ left₀ → q ≡ p) → (¬ (left ≡ left₀) → q ≡ leaf_in n y)
       → each_value (λ q a. uses S 7 && skippable P (list_in n x) d q a) (reply_below P n S d p x) 16 0 left q
       ≡ each_value (λ q a. uses S 7 && skippable P (list_in n x) d q a) (reply_below P n S d p x) 16 0 left₀ p
 
-module _ (n universal : ℕ) (near index rows : List ℕ) (S d t : ℕ) (x : List ℕ) where
-  pub some-start : (J left : ℕ) → 128 ≤ t → 96 + n ≤ t → Blank t x → left < 2 ^ 16 → SomeLoop n universal near index rows S d t x J left x J left
+module _ (n : ℕ) (A : Arrays) (S d t : ℕ) (x : List ℕ) where
+  pub some-start : (J left : ℕ) → 128 ≤ t → 96 + n ≤ t → Blank t x → left < 2 ^ 16 → SomeLoop n A S d t x J left x J left
   some-start J left r b z l = record { mid = mid_start n t x b z; bare = λ k h u. z k h (omega arith); small = l; part = λ a m. m; same = λ P st p tries. refl }
 
   -- One value more, lost with a set that leads on.
-  pub some_next : (J₀ left₀ : ℕ) (y : List ℕ) (J left : ℕ) → SomeLoop n universal near index rows S d t x J₀ left₀ y J left
+  pub some_next : (J₀ left₀ : ℕ) (y : List ℕ) (J left : ℕ) → SomeLoop n A S d t x J₀ left₀ y J left
       → ¬ (left ≡ 0) → (a : ℕ) → a ≡ first 16 (bit left) → (y' : List ℕ) → Mid n t x y' → Leafless y' → (q J' left' : ℕ) → (uses S 6 && not (bit q d)) ≡ false
-      → ((P : Problem) → States P n universal near index rows → (p : List ℕ) → Tries P n S d p left₀ x → reply_below P n S d p x a ≡ failed q)
-      → left' ≡ rest left → J' ≡ bit_or J q → SomeLoop n universal near index rows S d t x J₀ left₀ y' J' left'
+      → ((P : Problem) → States P n A → (p : List ℕ) → Tries P n S d p left₀ x → reply_below P n S d p x a ≡ failed q)
+      → left' ≡ rest left → J' ≡ bit_or J q → SomeLoop n A S d t x J₀ left₀ y' J' left'
   some_next J₀ left₀ y J left l z a e y' m b q J' left' j f g k = record {
     mid = m;
     bare = b;
@@ -69,7 +70,7 @@ module _ (n universal : ℕ) (near index rows : List ℕ) (S d t : ℕ) (x : Lis
     same = λ P st p tries. some_on (uses S 6) d (reply_below P n S d p x) left J _ (l.same P st p tries) l.small z a e q left' J' (f P st p tries) j g k;
   }
 
-  pub each_start : (left : ℕ) → 96 + n ≤ t → Blank t x → left < 2 ^ 16 → EachLoop n universal near index rows S d t x left x left
+  pub each_start : (left : ℕ) → 96 + n ≤ t → Blank t x → left < 2 ^ 16 → EachLoop n A S d t x left x left
   each_start left b z l = record {
     mid = mid_start n t x b z;
     small = l;
@@ -81,9 +82,9 @@ module _ (n universal : ℕ) (near index rows : List ℕ) (S d t : ℕ) (x : Lis
   last_leaf : (left₀ : ℕ) (y : List ℕ) (left : ℕ) (p : List ℕ) → (q : List ℕ) × (left ≡ left₀ → q ≡ p) × (¬ (left ≡ left₀) → q ≡ leaf_in n y)
   last_leaf left₀ y left p = by_eq left left₀ (λ e. (p, λ _. refl, λ o. absurd (o e))) (λ o. (leaf_in n y, λ e. absurd (o e), λ _. refl))
 
-  module _ (left₀ : ℕ) (y : List ℕ) (left : ℕ) (l : EachLoop n universal near index rows S d t x left₀ y left) (z : ¬ (left ≡ 0)) (a : ℕ) (e : a ≡ first 16 (bit left)) where
+  module _ (left₀ : ℕ) (y : List ℕ) (left : ℕ) (l : EachLoop n A S d t x left₀ y left) (z : ¬ (left ≡ 0)) (a : ℕ) (e : a ≡ first 16 (bit left)) where
     -- A value that is lost.
-    pub each_fail : (P : Problem) → States P n universal near index rows → (p : List ℕ) → Tries P n S d p left₀ x → (q : ℕ) → reply_below P n S d p x a ≡ failed q
+    pub each_fail : (P : Problem) → States P n A → (p : List ℕ) → Tries P n S d p left₀ x → (q : ℕ) → reply_below P n S d p x a ≡ failed q
         → each_value (λ q a. uses S 7 && skippable P (list_in n x) d q a) (reply_below P n S d p x) 16 0 left₀ p ≡ failed q
     each_fail P st p tries q f =
         let b = last_leaf left₀ y left p in
@@ -91,9 +92,9 @@ module _ (n universal : ℕ) (near index rows : List ℕ) (S d t : ℕ) (x : Lis
 
     -- One value more, won with the leaf in y'.
     pub each_next : (y' : List ℕ) → Mid n t x y' → (left' : ℕ)
-        → ((P : Problem) → States P n universal near index rows → left' ≡ untried (λ b. uses S 7 && skippable P (list_in n x) d (leaf_in n y') b) a left)
-        → ((P : Problem) → States P n universal near index rows → (p : List ℕ) → Tries P n S d p left₀ x → reply_below P n S d p x a ≡ solved (leaf_in n y'))
-        → Stated n universal near index rows → EachLoop n universal near index rows S d t x left₀ y' left'
+        → ((P : Problem) → States P n A → left' ≡ untried (λ b. uses S 7 && skippable P (list_in n x) d (leaf_in n y') b) a left)
+        → ((P : Problem) → States P n A → (p : List ℕ) → Tries P n S d p left₀ x → reply_below P n S d p x a ≡ solved (leaf_in n y'))
+        → Stated n A → EachLoop n A S d t x left₀ y' left'
     each_next y' m left' g f s =
         let here : T (bit left₀ a) = l.part a (subst (λ k. T (bit left k)) (sym e) (low_in 16 left l.small z)) in
         let below : a < 16 = let b = low_lt 16 left l.small z in omega (arith, e) in

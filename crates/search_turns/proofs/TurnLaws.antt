@@ -26,6 +26,7 @@ use Rattle.solver_arrays.proofs.WordLaws.{get_d_list_in}
 use Rattle.search_words.specs.TurnSets.{ReasonsBelow, Starts}
 use Rattle.search_steps.specs.TurnReply.{TurnIn}
 use Rattle.search_steps.specs.TurnSteps.{Enters}
+use Rattle.solver_arrays.specs.declared.arrays.Arrays.{Arrays}
 
 module _ (P : Problem) (S : ℕ) (p : List ℕ) (o : Step) (e : List ℕ) (f : ℕ → Ending) where
   inner_lost : o.loss ≡ true → inner P S p o e f ≡ failed o.set
@@ -42,7 +43,7 @@ module _ (P : Problem) (S : ℕ) (p : List ℕ) (o : Step) (e : List ℕ) (f : �
   unfolding inner
   inner-each a b = rw (a, b)
 
-module _ (P : Problem) (n universal : ℕ) (near index rows : List ℕ) (st : States P n universal near index rows) (S c d : ℕ) (p w : List ℕ) (turn : TurnIn P n S c d p w) (h : d < n) where
+module _ (P : Problem) (n : ℕ) (A : Arrays) (st : States P n A) (S c d : ℕ) (p w : List ℕ) (turn : TurnIn P n S c d p w) (h : d < n) where
   open turn use {plays, legal-start, count}
 
   abbrev o : Step
@@ -72,14 +73,14 @@ module _ (P : Problem) (n universal : ℕ) (near index rows : List ℕ) (st : St
       calm : o.loss ≡ false
       calm = sym E.loss ∙ e
 
-      side : (b : Bool) → bit universal d ≡ b → P.universal (length p) ≡ b
+      side : (b : Bool) → bit A.universal d ≡ b → P.universal (length p) ≡ b
       side b q = ap P.universal count ∙ st.side d h ∙ q
 
       tried : get_or (list_in n x) d 0 ≡ left
       tried = get_d_list_in n x d h ∙ sym (E.tried e)
 
       -- The values of an existential turn, from the set J that it starts with.
-      pub entered_some : bit universal d ≡ false → (J : ℕ) → Starts near d narrowed x J → ReasonsBelow n x
+      pub entered_some : bit A.universal d ≡ false → (J : ℕ) → Starts n A d narrowed x J → ReasonsBelow n x
           → search P S c (n - d) p (list_in n w) (why_in n w) ≡ hand_up (uses S 6) d (some_value (uses S 6) d left (child_reply x) 16 0 J)
       entered_some u J s r =
           opened
@@ -89,10 +90,10 @@ module _ (P : Problem) (n universal : ℕ) (near index rows : List ℕ) (st : St
           ∙ ap₂ (λ (m R : List ℕ). hand_up (uses S 6) d (some_value (uses S 6) d (get_or m d 0)
           (λ a. search P S d (n - suc d) (p ++ (a ∷ [])) (next_list P m d a) (next_reasons R d)) 16 0 (start_set P R o.list m d))) (sym (E.list e)) (sym (E.why e))
           ∙ ap₂ (λ m j. hand_up (uses S 6) d (some_value (uses S 6) d m (child_reply x) 16 0 j)) tried
-          (sym (s P n universal index rows o.list (list_in n x) st h r (E.change e ∙ ap (λ (m : List ℕ). not (eqb (get_or m d 0) (get_or o.list d 0))) (sym (E.list e)))))
+          (sym (s P o.list (list_in n x) st h r (E.change e ∙ ap (λ (m : List ℕ). not (eqb (get_or m d 0) (get_or o.list d 0))) (sym (E.list e)))))
 
       -- The values of a universal turn.
-      pub entered_each : bit universal d ≡ true
+      pub entered_each : bit A.universal d ≡ true
           → search P S c (n - d) p (list_in n w) (why_in n w)
           ≡ hand_up (uses S 6) d (each_value (λ q a. uses S 7 && skippable P (list_in n x) d q a) (child_reply x) 16 0 left p)
       entered_each u =

@@ -1,27 +1,28 @@
 -- What the turn below is handed: the list narrowed to a value, the reasons with that of the played variable.
 use mathlib.Core.Path.{◌≡◌, refl, sym, ap, subst, ◌∙◌}
-use mathlib.Core.List.{List}
-use mathlib.Core.Logic.{◌⊎◌, inl, inr, ⊎_elim}
+use mathlib.Core.List.{List, ◌++◌}
+use mathlib.Core.Logic.{◌⊎◌, inl, inr}
 use Prim.Native.Nat.{ℕ, ◌+◌, ◌-◌, ◌*◌, ◌/◌, ◌%◌, ◌^◌, ◌≤◌, ◌<◌}
 use native.Mathlib.Omega.{arith}
-use lib.ListN.{get_or, length, set, drop, length-set}
+use lib.ListN.{get_or, length, set, take, drop, length-set, length-drop}
+use borrow.Rule.Slice.PartMut.{put_mid}
 use lib.Pow.{pow-lt}
-use lib.Seq.{ext_get_or, get_or-set_same, get_or-set_other, get_or-drop}
+use lib.Seq.{ext_get_or, get_or-set_same, get_or-set_other, get_or-take, get_or-drop, length-take-le}
 use Rattle.mask.proofs.Logic.{by_eq, by_lt}
 use Rattle.game.specs.Lists.{narrow_to}
 use Rattle.game.specs.Reasons.{next_reasons}
 use Rattle.theory.proofs.ReasonLists.{next_reasons-length}
 use Rattle.solver_arrays.specs.Words.{list_in, why_in, reason_in, put_reason}
-use Rattle.solver_arrays.proofs.WordLaws.{length-list_in, length-why_in, get_d_list_in, get_d_why_in, put-domain, put_same, put_apart, reason_set}
-use Rattle.search_words.specs.TurnRoom.{copied, with_play, handed_down}
+use Rattle.solver_arrays.proofs.WordLaws.{length-list_in, length-why_in, get_d_list_in, get_d_why_in, length-put_reason, put_other, put-domain, put_same, put_apart, reason_set}
+use Rattle.search_words.specs.TurnRoom.{with_play, handed_down}
 use Rattle.search_words.specs.TurnSets.{ReasonsBelow}
-use Rattle.search_words.proofs.RoomLaws.{length_run, run_at, run_other, length-copied, copied_at, copied_other}
+use Rattle.search_words.proofs.RoomLaws.{length_run, run_at, run_other, length_part, part_at, part_other, length_own, own_at, below_at, parts_joined}
 
--- A store in a list that holds another from s on is a store in that one.
-shifted : (s : ℕ) (x y : List ℕ) (i j v : ℕ) → s + i < length x → i < length y → get_or x (s + j) 0 ≡ get_or y j 0 → get_or (set x (s + i) v) (s + j) 0 ≡ get_or (set y i v) j 0
-shifted s x y i j v p q e = by_eq j i
-    (λ z. rw z (get_or-set_same x (s + i) v 0 p ∙ sym (get_or-set_same y i v 0 q)))
-    (λ z. get_or-set_other x (s + i) (s + j) v 0 (omega arith) ∙ e ∙ sym (get_or-set_other y i j v 0 z))
+-- The same store in two lists that agree at j.
+kept_at : (x y : List ℕ) (i j v : ℕ) → i < length x → i < length y → get_or x j 0 ≡ get_or y j 0 → get_or (set x i v) j 0 ≡ get_or (set y i v) j 0
+kept_at x y i j v p q e = by_eq j i
+    (λ z. rw z (get_or-set_same x i v 0 p ∙ sym (get_or-set_same y i v 0 q)))
+    (λ z. get_or-set_other x i j v 0 z ∙ e ∙ sym (get_or-set_other y i j v 0 z))
 
 -- Narrowing keeps the length.
 length-narrow_to : (l : List ℕ) (i a : ℕ) → length (narrow_to l i a) ≡ length l
@@ -44,60 +45,48 @@ pub handed_down_other : (d a : ℕ) (w : List ℕ) (k : ℕ) → (k < 128) ⊎ (
 unfolding handed_down
 handed_down_other d a w k o = run_other 128 224 _ w k o
 
--- The words x with the domain of d and both halves of its reason stored in the turn below.
-stored : ℕ → ℕ → List ℕ → List ℕ
-stored d a x = set (set (set x (128 + d) (2 ^ a)) (128 + (32 + 2 * d)) (2 ^ d % 65536)) (128 + (33 + 2 * d)) (2 ^ d / 65536)
-
-length-stored : (d a : ℕ) (x : List ℕ) → length (stored d a x) ≡ length x
-unfolding stored
-length-stored d a x = simp length-set refl
-
--- Outside the turn below nothing changes; inside, it is the play in the words that were copied there.
-stored_other : (d a : ℕ) (x : List ℕ) (k : ℕ) → d < 32 → (k < 128) ⊎ (224 ≤ k) → get_or (stored d a x) k 0 ≡ get_or x k 0
-unfolding stored
-stored_other d a x k h o =
-    let i : ¬ (k ≡ 128 + (33 + 2 * d)) = ⊎_elim (λ u. omega arith) (λ u. omega arith) o in
-    let j : ¬ (k ≡ 128 + (32 + 2 * d)) = ⊎_elim (λ u. omega arith) (λ u. omega arith) o in
-    let g : ¬ (k ≡ 128 + d) = ⊎_elim (λ u. omega arith) (λ u. omega arith) o in
-    get_or-set_other (set (set x (128 + d) (2 ^ a)) (128 + (32 + 2 * d)) (2 ^ d % 65536)) (128 + (33 + 2 * d)) k (2 ^ d / 65536) 0 i
-    ∙ get_or-set_other (set x (128 + d) (2 ^ a)) (128 + (32 + 2 * d)) k (2 ^ d % 65536) 0 j
-    ∙ get_or-set_other x (128 + d) k (2 ^ a) 0 g
-
-stored_at : (d a : ℕ) (x w : List ℕ) (j : ℕ) → d < 32 → 256 ≤ length x → 256 ≤ length w → get_or x (128 + j) 0 ≡ get_or w j 0 → get_or (stored d a x) (128 + j) 0 ≡ get_or (with_play d a w) j 0
-unfolding stored with_play put_reason
-stored_at d a x w j h b c e =
-    let y = set x (128 + d) (2 ^ a) in
+-- Words with a play agree where the words do.
+play_at : (d a : ℕ) (x w : List ℕ) (j : ℕ) → d < 32 → 96 ≤ length x → 96 ≤ length w → get_or x j 0 ≡ get_or w j 0 → get_or (with_play d a x) j 0 ≡ get_or (with_play d a w) j 0
+unfolding with_play put_reason
+play_at d a x w j h b c e =
+    let y = set x d (2 ^ a) in
     let v = set w d (2 ^ a) in
-    let p = length-set x (128 + d) (2 ^ a) in
+    let p = length-set x d (2 ^ a) in
     let q = length-set w d (2 ^ a) in
-    let r = length-set y (128 + (32 + 2 * d)) (2 ^ d % 65536) in
+    let r = length-set y (32 + 2 * d) (2 ^ d % 65536) in
     let s = length-set v (32 + 2 * d) (2 ^ d % 65536) in
-    shifted 128 (set y (128 + (32 + 2 * d)) (2 ^ d % 65536)) (set v (32 + 2 * d) (2 ^ d % 65536)) (33 + 2 * d) j (2 ^ d / 65536) (omega arith) (omega arith)
-    (shifted 128 y v (32 + 2 * d) j (2 ^ d % 65536) (omega arith) (omega arith)
-    (shifted 128 x w d j (2 ^ a) (omega arith) (omega arith) e))
+    kept_at (set y (32 + 2 * d) (2 ^ d % 65536)) (set v (32 + 2 * d) (2 ^ d % 65536)) (33 + 2 * d) j (2 ^ d / 65536) (omega arith) (omega arith)
+    (kept_at y v (32 + 2 * d) j (2 ^ d % 65536) (omega arith) (omega arith)
+    (kept_at x w d j (2 ^ a) (omega arith) (omega arith) e))
 
--- Words copied, then stored.
-stored-copied : (d a : ℕ) (w : List ℕ) → d < 32 → 256 ≤ length w → stored d a (copied 0 128 96 w) ≡ handed_down d a w
-stored-copied d a w h b =
-    let x = copied 0 128 96 w in
-    let p = length-copied 0 128 96 w in
-    let q = length-stored d a x in
-    let away : (k : ℕ) → (k < 128) ⊎ (224 ≤ k) → get_or (stored d a x) k 0 ≡ get_or (handed_down d a w) k 0 =
-    λ k o. stored_other d a x k h o ∙ copied_other 0 128 96 w k o ∙ sym (handed_down_other d a w k o) in
-    let child : (j : ℕ) → j < 96 → get_or (stored d a x) (128 + j) 0 ≡ get_or (handed_down d a w) (128 + j) 0 =
-    λ j l. stored_at d a x w j h (omega arith) b (copied_at 0 128 96 w j l (omega arith) ∙ ap (λ i. get_or w i 0) (let z : 0 + j ≡ j = omega arith in z)) ∙ sym (handed_down_at d a w j (omega arith) l) in
-    ext_get_or 0 (stored d a x) (handed_down d a w) (q ∙ p ∙ sym (length-handed_down d a w)) λ k l. by_lt k 128
-    (λ m. away k (inl m))
-    (λ m. by_lt k 224 (λ u. let v : k ≡ 128 + (k - 128) = omega arith in rw v (child (k - 128) (omega arith))) (λ u. away k (inr u)))
+-- A play leaves the words behind the reasons.
+play_behind : (d a : ℕ) (x : List ℕ) (j : ℕ) → d < 32 → 96 ≤ j → get_or (with_play d a x) j 0 ≡ get_or x j 0
+unfolding with_play
+play_behind d a x j h l = put_other (set x d (2 ^ a)) d (2 ^ d) j (inr (omega arith)) ∙ get_or-set_other x d j (2 ^ a) 0 (omega arith)
 
--- The same over what the code stores.
-pub hand_is : (d a : ℕ) (w x : List ℕ) (s r : ℕ) → d < 32 → 256 ≤ length w → x ≡ copied 0 128 96 w → s ≡ 2 ^ a → r ≡ 2 ^ d
-    → set (set (set x (128 + d) s) (160 + 2 * d) (r % 65536)) (161 + 2 * d) (r / 65536) ≡ handed_down d a w
-unfolding stored
-hand_is d a w x s r h b e p q =
-    let i : 160 + 2 * d ≡ 128 + (32 + 2 * d) = omega arith in
-    let j : 161 + 2 * d ≡ 128 + (33 + 2 * d) = omega arith in
-    rw (i, j, e, p, q) (stored-copied d a w h b)
+length-with_play : (d a : ℕ) (x : List ℕ) → length (with_play d a x) ≡ length x
+unfolding with_play
+length-with_play d a x = length-put_reason (set x d (2 ^ a)) d (2 ^ d) ∙ length-set x d (2 ^ a)
+
+-- What the code stores: the first 96 words x copied to those below, then the play there.
+pub hand_is :
+    (d a : ℕ) (w own below x : List ℕ) (s r : ℕ) → d < 32 → 256 ≤ length w → own ≡ take 128 w → below ≡ drop 128 w
+    → x ≡ take 96 own → s ≡ 2 ^ a → r ≡ 2 ^ d
+    → own ++ put_reason (set (put_mid 0 96 below x) d s) d r ≡ handed_down d a w
+unfolding with_play
+hand_is d a w own below x s r h b o l f p q =
+    let e : length x ≡ 96 = ap length f ∙ length-take-le 96 own (omega (arith, length_own w own below b o l)) in
+    let C = put_mid 0 96 below x in
+    let long : 0 + 96 ≤ length below = omega (arith, ap length l, length-drop 128 w) in
+    let size = length_part 0 96 below x long e in
+    let full : 96 ≤ length C = omega (arith, size, long) in
+    rw (p, q) (parts_joined w own below b o l own (with_play d a C) (handed_down d a w) refl (length-with_play d a C ∙ size) (length-handed_down d a w)
+    (λ k m. own_at w own below b o l k m ∙ sym (handed_down_other d a w k (inl m)))
+    (λ k. by_lt k 96
+    (λ m.
+    play_at d a C w k h full (omega arith) (let z : k ≡ 0 + k = omega arith in ap (λ i. get_or C i 0) z ∙ part_at 0 96 below x long e k m ∙ ap (λ u. get_or u k 0) f ∙ get_or-take 96 own k 0 m ∙ own_at w own below b o l k (omega arith))
+    ∙ sym (handed_down_at d a w k (omega arith) m))
+    (λ m. play_behind d a C k h m ∙ part_other 0 96 below x long e k (inr m) ∙ below_at w own below b o l k ∙ sym (handed_down_other d a w (128 + k) (inr (omega arith))))))
 
 -- The list and the reasons of the turn below -----------------------------------------------------------------------
 module _ (n d a : ℕ) (b : n ≤ 32) (h : d < n) (w : List ℕ) (m : 256 ≤ length w) where

@@ -22,6 +22,7 @@ use Rattle.solver_arrays.specs.Arrays.{States}
 use Rattle.solver_arrays.specs.Words.{reason_in, why_in}
 use Rattle.solver_arrays.proofs.WordLaws.{get_d_why_in}
 use Rattle.search_words.specs.TurnSets.{joined_reasons, ReasonsBelow}
+use Rattle.solver_arrays.specs.declared.arrays.Arrays.{Arrays}
 
 -- What a turn hands up -------------------------------------------------------------------------------------------
 -- All played variables, the members of e, and those of them in the set S.
@@ -77,37 +78,37 @@ module _ (w : List ℕ) where
   joined_end whole out m z i = sym (i ∙ ap (λ x. bit_or out (joined_reasons x w)) z ∙ ap (bit_or out) joined_none ∙ or_zero_r out)
 
 -- The reasons of the neighbours, in every problem that the arrays state ---------------------------------------
-module _ (P : Problem) (n universal : ℕ) (near index rows : List ℕ) (st : States P n universal near index rows) (w : List ℕ) (below : ReasonsBelow n w) (d : ℕ) (h : d < n) where
+module _ (P : Problem) (n : ℕ) (A : Arrays) (st : States P n A) (w : List ℕ) (below : ReasonsBelow n w) (d : ℕ) (h : d < n) where
   size : P.n ≡ n
   size = st.size
 
   -- A neighbour is one of the n variables.
-  near_lt : (k : ℕ) → T (bit (get_or near d 0) k) → k < n
+  near_lt : (k : ℕ) → T (bit (get_or A.near d 0) k) → k < n
   near_lt k t = by_lt k n (λ l. l) (λ l. absurd (clash (st.inside d k h l ∙ bit_of_zero k) t))
 
   -- A variable below n is in some reason of a neighbour in the words, as in the game; one from n on is in none.
-  near_some : (j : ℕ) → some 32 (bit (get_or near d 0)) (λ k. bit (reason_in w k) j) ≡ some P.n (P.constrained d) (λ k. bit (get_or (why_in n w) k 0) j)
+  near_some : (j : ℕ) → some 32 (bit (get_or A.near d 0)) (λ k. bit (reason_in w k) j) ≡ some P.n (P.constrained d) (λ k. bit (get_or (why_in n w) k 0) j)
   near_some j =
-      same (some 32 (bit (get_or near d 0)) (λ k. bit (reason_in w k) j)) (some P.n (P.constrained d) (λ k. bit (get_or (why_in n w) k 0) j))
-      (λ t. let r = some_out 32 (bit (get_or near d 0)) (λ k. bit (reason_in w k) j) t in
+      same (some 32 (bit (get_or A.near d 0)) (λ k. bit (reason_in w k) j)) (some P.n (P.constrained d) (λ k. bit (get_or (why_in n w) k 0) j))
+      (λ t. let r = some_out 32 (bit (get_or A.near d 0)) (λ k. bit (reason_in w k) j) t in
       let l = near_lt r.0 r.2 in
       some_in P.n (P.constrained d) (λ k. bit (get_or (why_in n w) k 0) j) r.0 (omega (arith, size))
       (subst T (sym (st.joined d r.0 h l)) r.2) (subst (λ x. T (bit x j)) (sym (get_d_why_in n w r.0 l)) r.3))
       (λ t. let r = some_out P.n (P.constrained d) (λ k. bit (get_or (why_in n w) k 0) j) t in
       let l : r.0 < n = omega (arith, size, r.1) in
       let b = st.most in
-      some_in 32 (bit (get_or near d 0)) (λ k. bit (reason_in w k) j) r.0 (omega (arith, l, b))
+      some_in 32 (bit (get_or A.near d 0)) (λ k. bit (reason_in w k) j) r.0 (omega (arith, l, b))
       (subst T (st.joined d r.0 h l) r.2) (subst (λ x. T (bit x j)) (get_d_why_in n w r.0 l) r.3))
 
-  near_none : (j : ℕ) → n ≤ j → some 32 (bit (get_or near d 0)) (λ k. bit (reason_in w k) j) ≡ false
-  near_none j l = fails λ t. let r = some_out 32 (bit (get_or near d 0)) (λ k. bit (reason_in w k) j) t in
+  near_none : (j : ℕ) → n ≤ j → some 32 (bit (get_or A.near d 0)) (λ k. bit (reason_in w k) j) ≡ false
+  near_none j l = fails λ t. let r = some_out 32 (bit (get_or A.near d 0)) (λ k. bit (reason_in w k) j) t in
       clash (bit_high n (reason_in w r.0) j (below r.0 (near_lt r.0 r.2)) l) r.3
 
   -- The joined reasons of the neighbours are the game's.
-  near_is : joined_reasons (get_or near d 0) w ≡ mask_of P.n (λ j. some P.n (P.constrained d) (λ k. bit (get_or (why_in n w) k 0) j))
+  near_is : joined_reasons (get_or A.near d 0) w ≡ mask_of P.n (λ j. some P.n (P.constrained d) (λ k. bit (get_or (why_in n w) k 0) j))
   unfolding joined_reasons
   near_is =
-      let g : ℕ → Bool = λ j. some 32 (bit (get_or near d 0)) (λ k. bit (reason_in w k) j) in
+      let g : ℕ → Bool = λ j. some 32 (bit (get_or A.near d 0)) (λ k. bit (reason_in w k) j) in
       let f : ℕ → Bool = λ j. some P.n (P.constrained d) (λ k. bit (get_or (why_in n w) k 0) j) in
       let b = st.most in
       let p = pow_mono {i = P.n} {j = 32} (omega (arith, size, b)) in
@@ -119,7 +120,7 @@ module _ (P : Problem) (n universal : ℕ) (near index rows : List ℕ) (st : St
 
   -- What the conflict set of an existential turn starts with.
   start_is : (narrowed : Bool) (l e : List ℕ) → narrowed ≡ not (eqb (get_or e d 0) (get_or l d 0))
-      → cond narrowed (bit_or (reason_in w d) (joined_reasons (get_or near d 0) w)) (reason_in w d) ≡ start_set P (why_in n w) l e d
+      → cond narrowed (bit_or (reason_in w d) (joined_reasons (get_or A.near d 0) w)) (reason_in w d) ≡ start_set P (why_in n w) l e d
   unfolding start_set
   start_is narrowed l e q = rw (near_is, q, get_d_why_in n w d h) (go _ _ (eqb (get_or e d 0) (get_or l d 0)))
     where
@@ -128,7 +129,7 @@ module _ (P : Problem) (n universal : ℕ) (near index rows : List ℕ) (st : St
       go x y false = refl
 
   -- The same for both ways of the code: the domain was narrowed, or not.
-  pub start_wide : (l e : List ℕ) (narrowed : Bool) (own more : ℕ) → narrowed ≡ true → own ≡ reason_in w d → more ≡ joined_reasons (get_or near d 0) w
+  pub start_wide : (l e : List ℕ) (narrowed : Bool) (own more : ℕ) → narrowed ≡ true → own ≡ reason_in w d → more ≡ joined_reasons (get_or A.near d 0) w
       → narrowed ≡ not (eqb (get_or e d 0) (get_or l d 0)) → bit_or own more ≡ start_set P (why_in n w) l e d
   start_wide l e narrowed own more t p q i = ap₂ bit_or p q ∙ start_is true l e (sym t ∙ i)
 

@@ -1,5 +1,5 @@
 -- The room of a turn: its own 128 words (domains 0..32, reasons 32..96, leaf 96..128), then those of the turn below.
-use Rattle.std.specs.Prelude.{cond, ◌&&◌, List, ◌⊎◌, ℕ, ◌+◌, ◌-◌, ◌^◌, ◌≤◌, ltb, leb, get_or, length, set}
+use Rattle.std.specs.Prelude.{cond, ◌&&◌, List, ℕ, ◌+◌, ◌-◌, ◌^◌, ltb, leb, get_or, length, set}
 use Rattle.game.specs.Lists.{list_of}
 use Rattle.solver_arrays.specs.Words.{put_reason}
 
@@ -13,10 +13,6 @@ zeroed s t w = with_run s t (λ k. 0) w
 
 unfoldable pub copied : ℕ → ℕ → ℕ → List ℕ → List ℕ
 copied s t v w = with_run t (t + v) (λ k. get_or w (s + (k - t)) 0) w
-
--- The v words from s on and those from t on have none in common.
-abbrev pub Apart : ℕ → ℕ → ℕ → Type 0
-Apart s t v = (s + v ≤ t) ⊎ (t + v ≤ s)
 
 -- The words w with value a of variable d played: the domain of d narrowed to a, and d its own reason.
 unfoldable pub with_play : ℕ → ℕ → List ℕ → List ℕ

@@ -5,65 +5,76 @@ use Prim.Native.Nat.{ℕ, ◌≤◌, ◌<◌}
 use native.Mathlib.Omega.{arith}
 use lib.ListN.{get_or}
 use lib.Seq.{get_or-take}
-use Rattle.refusal.specs.declared.Verdict.TheVariants.{Fine, Refused as Not}
+use Rattle.std.specs.Prelude.{Result, Err}
+use Rattle.refusal.specs.declared.reason.Reason.{Reason}
+use Rattle.refusal.specs.declared.reason.Fault.{Fault}
+use Rattle.refusal.specs.declared.reason.Refusal.{Refusal}
+use Rattle.refusal.specs.declared.reason.Refusal.TheVariants.{InFile}
+use Rattle.refusal.specs.Chain.{Fine}
+use Rattle.refusal.specs.Told.{in_call}
 use Rattle.file_reader.specs.declared.Head.{Head}
 use Rattle.file_reader.specs.Reading.{n_of, domains_of, verdict_of}
 use Rattle.file_reader.proofs.Accepted.{Shows, variables_most}
 use Rattle.game.specs.Problem.{Problem}
-use Rattle.solver_arrays.specs.declared.Variables.{Variables}
-use Rattle.solver_arrays.specs.Arrays.{States, Poses}
+use Rattle.solver_arrays.specs.declared.arrays.Arrays.{Arrays}
+use Rattle.solver_arrays.specs.Arrays.{States}
 use Rattle.file_decoder.specs.FileProblem.{problem_of, ordinary_of}
 use Rattle.file_decoder.specs.Decoded.{FileGiven}
 use Rattle.file_decoder.proofs.FileLaws.{problem_size, problem_domains}
 use Rattle.file_decoder.proofs.ReadLaws.{read_refused, read_fine}
 use Rattle.position.specs.declared.Position.{Position}
-use Rattle.session.specs.declared.Played.{Played}
 use Rattle.session.specs.declared.Opened.{Opened}
-use Rattle.session.specs.declared.Answer.TheVariants.{RefusedAt}
 use Rattle.session.specs.Plays.{play_in, take_back_in}
-use Rattle.session.specs.Files.{file_first, play_file, take_back_file}
-use Rattle.session.specs.Opening.{open_in}
-use Rattle.session.specs.Told.{told_opened, open_told, masks_shown, counts_shown}
+use Rattle.session.specs.Opening.{PosesOwn, open_in}
+use Rattle.session.specs.Files.{file_first, play_file, take_back_file, open_file}
+use Rattle.session.specs.Told.{told, left, told_opened, masks_in, counts_in, play_told, play_left, take_back_told, take_back_left, open_told, masks_shown, counts_shown}
 use Rattle.session.proofs.PlayLaws.{DomainsOf, play_same, take_back_same}
 
 pub read_most : (f : List ℕ) (h : Head) → Shows f h → h.n ≤ 32
 read_most f h s = omega (arith, s.variables, variables_most f s.fine)
 
--- A call over a refused file.
-pub file-refused : (f : List ℕ) (p : Position) (call : Problem → Played) (e k : ℕ) → verdict_of f ≡ Not e k → record { answer = RefusedAt e k; position = p } ≡ file_first f p call
-unfolding file_first
-file-refused f p call e k q = sym (read_refused f _ _ e k q)
-
--- The arrays decoded state the file's problem over its own variables, the first n.
-pub own_posed : (f : List ℕ) (n : ℕ) (v : Variables) (near index rows : List ℕ) (g : FileGiven f n v near index rows)
-    → Poses (problem_of f g.fine) record { n = n; universal = v.universal; domains = v.domains } near index rows
+-- The arrays decoded state the file's problem with their own variables.
+pub own_posed : (f : List ℕ) (A : Arrays) (g : FileGiven f A) → PosesOwn (problem_of f g.fine) A
 unfolding ordinary_of
-own_posed f n v near index rows g =
-    let e : v.n ≡ n = sym g.poses.states.size ∙ problem_size f g.fine ∙ sym g.size in
-    record { states = subst (λ (k : ℕ). States (problem_of f g.fine) k v.universal near index rows) e g.poses.states; domain = g.domain }
+own_posed f A g =
+    let e : A.n ≡ A.own = sym g.poses.states.size ∙ problem_size f g.fine ∙ sym g.size in
+    record { states = subst (λ (k : ℕ). States (problem_of f g.fine) k A) e g.poses.states; domain = g.domain }
 
 module _ (f : List ℕ) (p : Position) where
+  -- Over a refused file.
+  module _ (e : Fault) (q : verdict_of f ≡ Err e) where
+    file-refused : {A : Type 0} (call : Problem → Result A Reason) → Err (InFile e) ≡ file_first f call
+    unfolding file_first
+    file-refused call = sym (read_refused f _ _ e q)
+
+    pub play_refused : (a : ℕ) → Err (InFile e) ≡ play_file f p a
+    unfolding play_file
+    play_refused a = file-refused _
+
+    pub take_back_refused : Err (InFile e) ≡ take_back_file f p
+    unfolding take_back_file
+    take_back_refused = file-refused _
+
+    pub open_refused : Err (InFile e) ≡ open_file f p
+    unfolding open_file
+    open_refused = file-refused _
+
   -- Over an accepted one a call is that in its problem.
   module _ (fine : verdict_of f ≡ Fine) where
-    pub play_file_lem : (a : ℕ) → play_file f p a ≡ play_in (problem_of f fine).n (problem_of f fine).domain p a
+    pub play_file_lem : (a : ℕ) → play_file f p a ≡ in_call (play_in (problem_of f fine).n (problem_of f fine).domain p a)
     unfolding play_file file_first
     play_file_lem a = read_fine f _ _ fine
 
-    pub take_back_file_lem : take_back_file f p ≡ take_back_in (problem_of f fine).n (problem_of f fine).domain p
+    pub take_back_file_lem : take_back_file f p ≡ in_call (take_back_in (problem_of f fine).n (problem_of f fine).domain p)
     unfolding take_back_file file_first
     take_back_file_lem = read_fine f _ _ fine
 
-    pub open_told_lem : open_told f p ≡ told_opened (open_in (problem_of f fine) p)
-    unfolding open_told
-    open_told_lem = read_fine f _ _ fine
+    pub open_file_lem : open_file f p ≡ in_call (open_in (problem_of f fine) p)
+    unfolding open_file file_first
+    open_file_lem = read_fine f _ _ fine
 
-    masks_shown_lem : masks_shown f p ≡ (open_in (problem_of f fine) p).masks
-    unfolding masks_shown
-    masks_shown_lem = read_fine f _ _ fine
-
-    counts-shown : counts_shown f p ≡ (open_in (problem_of f fine) p).counts
-    unfolding counts_shown
-    counts-shown = read_fine f _ _ fine
+    pub open_read : (r : Result Opened Reason) → r ≡ open_in (problem_of f fine) p → in_call r ≡ open_file f p
+    open_read r q = ap in_call q ∙ sym open_file_lem
 
   -- The reading of a file of bytes shows the domains of its problem, so a call over these is the one over the file.
   module _ (D : List ℕ) (h : Head) (bytes : (k : ℕ) → get_or f k 0 < 256) (s : Shows f h) (d : D ≡ domains_of f) where
@@ -76,16 +87,21 @@ module _ (f : List ℕ) (p : Position) where
           ∙ ap (λ (l : List ℕ). get_or l i 0) (sym d);
     }
 
-    pub play_read : (a : ℕ) (r : Played) → r ≡ play_in h.n D p a → r ≡ play_file f p a
-    play_read a r e = e ∙ play_same _ h.n D domains_of_lem p a ∙ sym (play_file_lem s.fine a)
+    pub play_read : (a : ℕ) (r : Result Position Reason) → r ≡ play_in h.n D p a → in_call r ≡ play_file f p a
+    play_read a r e = ap in_call (e ∙ play_same _ h.n D domains_of_lem p a) ∙ sym (play_file_lem s.fine a)
 
-    pub take_back_read : (r : Played) → r ≡ take_back_in h.n D p → r ≡ take_back_file f p
-    take_back_read r e = e ∙ take_back_same _ h.n D domains_of_lem p ∙ sym (take_back_file_lem s.fine)
+    pub take_back_read : (r : Result Position Reason) → r ≡ take_back_in h.n D p → in_call r ≡ take_back_file f p
+    take_back_read r e = ap in_call (e ∙ take_back_same _ h.n D domains_of_lem p) ∙ sym (take_back_file_lem s.fine)
 
-  pub open_read : (fine : verdict_of f ≡ Fine) (r : Opened) → r ≡ open_in (problem_of f fine) p
-      → (told_opened r ≡ open_told f p) × (r.masks ≡ masks_shown f p) × (r.counts ≡ counts_shown f p)
-  open_read fine r q = (
-    ap told_opened q ∙ sym (open_told_lem fine),
-    ap (λ (x : Opened). x.masks) q ∙ sym (masks_shown_lem fine),
-    ap (λ (x : Opened). x.counts) q ∙ sym (counts-shown fine),
-  )
+  -- What a reply tells and leaves.
+  pub play_shown : (a : ℕ) (r : Result Position Refusal) → r ≡ play_file f p a → (told r ≡ play_told f p a) × (left p r ≡ play_left f p a)
+  unfolding play_told play_left
+  play_shown a r e = (ap told e, ap (left p) e)
+
+  pub take_back_shown : (r : Result Position Refusal) → r ≡ take_back_file f p → (told r ≡ take_back_told f p) × (left p r ≡ take_back_left f p)
+  unfolding take_back_told take_back_left
+  take_back_shown r e = (ap told e, ap (left p) e)
+
+  pub open_shown : (r : Result Opened Refusal) → r ≡ open_file f p → (told_opened r ≡ open_told f p) × (masks_in r ≡ masks_shown f p) × (counts_in r ≡ counts_shown f p)
+  unfolding open_told masks_shown counts_shown
+  open_shown r e = (ap told_opened e, ap masks_in e, ap counts_in e)

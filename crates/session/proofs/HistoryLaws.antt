@@ -10,17 +10,19 @@ use lib.Seq.{take_all}
 use borrow.Author.Tests.{ltb-true, lt-ltb, ne_eqb}
 use Rattle.mask.specs.Mask.{bit}
 use Rattle.mask.proofs.Logic.{holds}
-use Rattle.refusal.specs.declared.Verdict.TheVariants.{Fine}
-use Rattle.refusal.specs.Chain.{◌then◌, need}
+use Rattle.std.specs.Prelude.{Result, Ok}
+use Rattle.refusal.specs.declared.reason.Reason.{Reason}
+use Rattle.refusal.specs.declared.reason.Reason.TheVariants.{Misfit}
+use Rattle.refusal.specs.Chain.{Fine, ◌then◌, need}
 use Rattle.refusal.proofs.Chain.{need_ok}
-use Rattle.refusal.specs.Told.{replied, refused}
+use Rattle.refusal.specs.Told.{replied, refused, in_call}
+use Rattle.refusal.specs.Replied.{passed}
 use Rattle.file_reader.specs.Reading.{verdict_of}
 use Rattle.file_reader.proofs.Accepted.{variables_most}
 use Rattle.game.specs.Problem.{Problem}
-use Rattle.game.specs.Lists.{domains, spread}
+use Rattle.game.specs.Lists.{domains}
 use Rattle.game.specs.Position.{legal}
 use Rattle.game.specs.Calls.{Call, play, take_back, without_last, after_call, standing_from, standing}
-use Rattle.game.specs.Open.{open_values, open_counts}
 use Rattle.theory.proofs.TurnLists.{legal_out}
 use Rattle.theory.proofs.Standing.{legal-after, standing-legal}
 use Rattle.file_decoder.specs.FileProblem.{problem_of}
@@ -28,13 +30,12 @@ use Rattle.position.specs.declared.Position.{Position}
 use Rattle.position.specs.Position.{shown, plays_of, fits_in}
 use Rattle.position.proofs.Fitting.{legal-fits}
 use Rattle.position.proofs.Shown.{plays_shown, pushed-shown, popped-shown, length-without_last}
-use Rattle.session.specs.declared.Played.{Played}
-use Rattle.session.specs.declared.Answer.TheVariants.{Done}
-use Rattle.session.specs.Plays.{answer_by, position_by, fit_test, play_test, take_back_test, play_in, take_back_in}
-use Rattle.session.specs.Opening.{list_by, open_in}
-use Rattle.session.specs.Told.{told_with, told, told_opened, play_told, play_left, take_back_told, take_back_left, open_told}
+use Rattle.session.specs.declared.Opened.{Opened}
+use Rattle.session.specs.Plays.{fit_test, play_test, take_back_test, play_in, take_back_in}
+use Rattle.session.specs.Opening.{opened_after, open_in}
+use Rattle.session.specs.Told.{told, left, told_opened, play_told, play_left, take_back_told, take_back_left, open_told}
 use Rattle.session.specs.History.{call_told, step, reached_from, reached_by, list_told, list_opened}
-use Rattle.session.proofs.FileLaws.{play_file_lem, take_back_file_lem, open_told_lem}
+use Rattle.session.proofs.FileLaws.{play_file_lem, take_back_file_lem, open_file_lem}
 
 module _ (P : Problem) (small : P.n ≤ 32) where
   -- A position that shows legal plays fits.
@@ -43,17 +44,17 @@ module _ (P : Problem) (small : P.n ≤ 32) where
 
   pub fit_is : (l : List ℕ) → T (legal P l) → fit_test P.n P.domain (shown l) ≡ Fine
   unfolding fit_test
-  fit_is l t = need_ok (fits_in (shown l) P.n P.domain) 23 0 (holds (legal_fit l t))
+  fit_is l t = need_ok (fits_in (shown l) P.n P.domain) Misfit (holds (legal_fit l t))
 
   -- What one call does to a position that shows l.
-  record Step (l : List ℕ) (r : Played) (c : Call) : Type 0 where
-    tells : told r.answer ≡ list_told P l c
-    leads : r.position ≡ shown (after_call P l c)
+  record Step (l : List ℕ) (r : Result Position Reason) (c : Call) : Type 0 where
+    tells : told (in_call r) ≡ list_told P l c
+    leads : left (shown l) (in_call r) ≡ shown (after_call P l c)
 
   -- A play, by whether a variable is left and whether its domain holds the value.
   play_by : (l : List ℕ) (a : ℕ) → T (legal P l) → (b d : Bool) → ltb (length l) P.n ≡ b → bit (get_or P.domain (length l) 0) a ≡ d
       → Step l (play_in P.n P.domain (shown l) a) (play a)
-  unfolding play_in play_test answer_by position_by need ◌then◌ told_with told list_told after_call domains shown
+  unfolding play_in play_test passed need ◌then◌ told left list_told after_call domains shown
   play_by l a t false d e f = record { tells = rw (fit_is l t, e); leads = rw (fit_is l t, e) }
   play_by l a t true false e f = record { tells = rw (fit_is l t, e, f); leads = rw (fit_is l t, e, f) }
   play_by l a t true true e f =
@@ -62,7 +63,7 @@ module _ (P : Problem) (small : P.n ≤ 32) where
 
   -- A take-back, with none played and with some.
   take_back_by : (l : List ℕ) → T (legal P l) → Step l (take_back_in P.n P.domain (shown l)) take_back
-  unfolding take_back_in take_back_test answer_by position_by need ◌then◌ told_with told list_told after_call without_last shown
+  unfolding take_back_in take_back_test passed need ◌then◌ told left list_told after_call without_last shown
   take_back_by [] t = record { tells = rw (fit_is [] t); leads = rw (fit_is [] t) }
   take_back_by (x ∷ l) t =
       let k = (legal_out P (x ∷ l) t).0 in
@@ -71,8 +72,8 @@ module _ (P : Problem) (small : P.n ≤ 32) where
       record { tells = rw (fit_is (x ∷ l) t, some, none); leads = rw (fit_is (x ∷ l) t, some) (popped-shown (x ∷ l) (omega arith) (omega arith)) }
 
   -- The open values of a position that shows l.
-  open_by : (l : List ℕ) → T (legal P l) → open_in P (shown l) ≡ record { answer = Done; masks = spread (open_values P l); counts = spread (open_counts P l) }
-  unfolding open_in answer_by list_by
+  open_by : (l : List ℕ) → T (legal P l) → open_in P (shown l) ≡ Ok (opened_after P l)
+  unfolding open_in passed
   open_by l t = rw (fit_is l t, plays_shown l)
 
 -- ---- what the plain list says
@@ -118,13 +119,13 @@ module _ (f : List ℕ) (fine : verdict_of f ≡ Fine) where
   -- One call on a position that shows legal plays: what it tells is what the plain list says, and it shows the plays that then stand.
   call_told_lem : (l : List ℕ) (c : Call) → T (legal P l) → call_told f (shown l) c ≡ list_told P l c
   unfolding call_told play_told take_back_told
-  call_told_lem l (play a) t = ap (λ (x : Played). told x.answer) (play_file_lem f (shown l) fine a) ∙ (play_by P few l a t _ _ refl refl).tells
-  call_told_lem l take_back t = ap (λ (x : Played). told x.answer) (take_back_file_lem f (shown l) fine) ∙ (take_back_by P few l t).tells
+  call_told_lem l (play a) t = ap told (play_file_lem f (shown l) fine a) ∙ (play_by P few l a t _ _ refl refl).tells
+  call_told_lem l take_back t = ap told (take_back_file_lem f (shown l) fine) ∙ (take_back_by P few l t).tells
 
   call_leads : (l : List ℕ) (c : Call) → T (legal P l) → step f (shown l) c ≡ shown (after_call P l c)
   unfolding step play_left take_back_left
-  call_leads l (play a) t = ap (λ (x : Played). x.position) (play_file_lem f (shown l) fine a) ∙ (play_by P few l a t _ _ refl refl).leads
-  call_leads l take_back t = ap (λ (x : Played). x.position) (take_back_file_lem f (shown l) fine) ∙ (take_back_by P few l t).leads
+  call_leads l (play a) t = ap (left (shown l)) (play_file_lem f (shown l) fine a) ∙ (play_by P few l a t _ _ refl refl).leads
+  call_leads l take_back t = ap (left (shown l)) (take_back_file_lem f (shown l) fine) ∙ (take_back_by P few l t).leads
 
   calls_lead : (l : List ℕ) (cs : List Call) → T (legal P l) → reached_from f (shown l) cs ≡ shown (standing_from P l cs)
   unfolding reached_from standing_from
@@ -149,8 +150,8 @@ module _ (f : List ℕ) (fine : verdict_of f ≡ Fine) where
 
   -- The open values told at the position reached are those of the plays that stand, and so are their counts.
   pub reached-opens : (cs : List Call) → open_told f (reached_by f cs) ≡ list_opened P (standing P cs)
-  unfolding told_opened told_with list_opened
+  unfolding open_told told_opened opened_after list_opened
   reached-opens cs =
       ap (open_told f) (reached_shows cs)
-      ∙ open_told_lem f (shown (standing P cs)) fine
-      ∙ ap told_opened (open_by P few (standing P cs) (standing-legal P cs))
+      ∙ ap told_opened (open_file_lem f (shown (standing P cs)) fine)
+      ∙ ap (λ (r : Result Opened Reason). told_opened (in_call r)) (open_by P few (standing P cs) (standing-legal P cs))

@@ -4,21 +4,24 @@ use mathlib.Core.Bool.{Bool, true, false, cond, not, ◌&&◌, and-true}
 use mathlib.Core.List.{List}
 use Prim.Native.Nat.{ℕ, ◌+◌, ◌^◌, ◌≤◌, ◌<◌}
 use native.Mathlib.Nat.{mod-eq_of_lt}
-use native.Mathlib.Numerals.{add-one}
 use native.Mathlib.Omega.{arith}
 use lib.Count.{ones}
 use lib.Dec.{T, T_not, eqb, ltb}
-use lib.ListN.{get_or, length, set, replicate}
+use lib.ListN.{get_or, length, set}
 use lib.Pow.{pow-lt}
+use lib.Seq.{get_or-take}
 use borrow.Author.Tests.{lt-ltb, le-ltb, not-false}
 use Rattle.mask.specs.Range.{some, each, count}
 use Rattle.mask.specs.Mask.{bit, mask_of}
-use Rattle.mask.proofs.Logic.{same_false, holds, true_holds, fails, clash, by_lt}
+use Rattle.mask.proofs.Logic.{same_false, true_holds, fails, clash, by_lt}
 use Rattle.mask.proofs.Range.{each_in, each_out, each_eq, some_in, some_out, some_eq}
 use Rattle.mask.proofs.Bits.{bit_single, ones-count}
 use Rattle.mask.proofs.Members.{some_single}
 use Rattle.mask.proofs.Masks.{mask_of_lt, mask_of_same, mask_of_bits}
-use Rattle.refusal.specs.declared.Verdict.TheVariants.{Fine, Refused as Not}
+use Rattle.std.specs.Prelude.{Ok, Err}
+use Rattle.refusal.specs.declared.reason.Reason.{Reason}
+use Rattle.refusal.specs.Chain.{Fine}
+use Rattle.refusal.proofs.RepliedLaws.{passed_stops, passed_goes}
 use Rattle.game.specs.Problem.{Problem}
 use Rattle.game.specs.Lists.{domains, list_of, masks_of, spread}
 use Rattle.game.specs.Open.{goes_with_plays, stuck, is_open, open_values, open_counts}
@@ -28,70 +31,59 @@ use Rattle.theory.proofs.SpreadLaws.{listed_next}
 use Rattle.theory.proofs.Standing.{open_count}
 use Rattle.theory.proofs.Turn.{unclashed_goes}
 use Rattle.theory.proofs.OpenChecks.{Usable, usable_in, usable_out}
-use Rattle.solver_arrays.specs.declared.Variables.{Variables}
-use Rattle.solver_arrays.specs.Arrays.{row_in, Poses}
+use Rattle.solver_arrays.specs.declared.arrays.Arrays.{Arrays}
+use Rattle.solver_arrays.specs.Arrays.{row_in}
 use Rattle.solver_arrays.specs.Going.{value_at, going_with}
-use Rattle.solver_arrays.proofs.PosedLaws.{posed_domain}
 use Rattle.solver_arrays.proofs.GoingLaws.{going_lt, going_bit, going_none, going_all}
 use Rattle.position.specs.declared.Position.{Position}
 use Rattle.position.specs.Position.{plays_of, fits_at, fits_in}
 use Rattle.position.proofs.Fitting.{fits_plays, fits_at_lem, length_plays, get_d_plays, played_small}
 use Rattle.session.specs.declared.Opened.{Opened}
-use Rattle.session.specs.declared.Answer.TheVariants.{Done, Refused}
-use Rattle.session.specs.Plays.{answer_by, fit_test}
-use Rattle.session.specs.Opening.{list_by, open_in, play_clashes, stuck_at, cause_at, stuck_to, open_mask, open_at, open_masks, mask_counts, open_all}
+use Rattle.session.specs.Plays.{fit_test}
+use Rattle.session.specs.Opening.{PosesOwn, opened_after, open_in, play_clashes, stuck_at, cause_at, stuck_to, open_mask, open_at, open_masks, mask_counts, open_all}
 use Rattle.session.proofs.PlayLaws.{fit_fine, fit_same}
 
 -- ---- the steps of the code
 
-pub play_clash : (index rows values : List ℕ) (j v own left : ℕ) (r : Bool) → v ≡ value_at values j → own ≡ 2 ^ v → left ≡ going_with index rows values j own j → r ≡ eqb left 0
-    → r ≡ play_clashes index rows values j
+pub play_clash : (A : Arrays) (values : List ℕ) (j v own left : ℕ) (r : Bool) → v ≡ value_at values j → own ≡ 2 ^ v → left ≡ going_with A values j own j → r ≡ eqb left 0
+    → r ≡ play_clashes A values j
 unfolding play_clashes
-play_clash index rows values j v own left r e f g q = q ∙ ap (λ m. eqb m 0) (g ∙ ap (λ m. going_with index rows values j m j) (f ∙ ap (λ a. 2 ^ a) e))
+play_clash A values j v own left r e f g q = q ∙ ap (λ m. eqb m 0) (g ∙ ap (λ m. going_with A values j m j) (f ∙ ap (λ a. 2 ^ a) e))
 
-module _ (index rows values : List ℕ) (u k : ℕ) where
-  pub stuck-played : (m j : ℕ) (r : Bool) → j < k → r ≡ play_clashes index rows values j → r ≡ stuck_at index rows u values k m j
+module _ (A : Arrays) (values : List ℕ) (k : ℕ) where
+  pub stuck-played : (m j : ℕ) (r : Bool) → j < k → r ≡ play_clashes A values j → r ≡ stuck_at A values k m j
   unfolding stuck_at
   stuck-played m j r h e = rw (lt-ltb j k h) e
 
-  pub stuck-universal : (m j left : ℕ) (r : Bool) → k ≤ j → bit u j ≡ true → left ≡ going_with index rows values k m j → r ≡ not (eqb left m) → r ≡ stuck_at index rows u values k m j
+  pub stuck-universal : (m j left : ℕ) (r : Bool) → k ≤ j → bit A.universal j ≡ true → left ≡ going_with A values k m j → r ≡ not (eqb left m) → r ≡ stuck_at A values k m j
   unfolding stuck_at
   stuck-universal m j left r h s e q = rw (le-ltb j k h, s, sym e) q
 
-  pub stuck_existential : (m j left : ℕ) (r : Bool) → k ≤ j → bit u j ≡ false → left ≡ going_with index rows values k m j → r ≡ eqb left 0 → r ≡ stuck_at index rows u values k m j
+  pub stuck_existential : (m j left : ℕ) (r : Bool) → k ≤ j → bit A.universal j ≡ false → left ≡ going_with A values k m j → r ≡ eqb left 0 → r ≡ stuck_at A values k m j
   unfolding stuck_at
   stuck_existential m j left r h s e q = rw (le-ltb j k h, s, sym e) q
 
   -- The three choices of a mask.
-  pub open_chosen : (closed whole : Bool) (m j own going unplayed usable r : ℕ) → own ≡ 2 ^ value_at values j → going ≡ going_with index rows values k m j → whole ≡ bit u j
-      → unplayed ≡ cond whole m going → usable ≡ cond closed 0 unplayed → r ≡ cond (ltb j k) own usable → r ≡ open_mask index rows closed u values k m j
+  pub open_chosen : (closed whole : Bool) (m j own going unplayed usable r : ℕ) → own ≡ 2 ^ value_at values j → going ≡ going_with A values k m j → whole ≡ bit A.universal j
+      → unplayed ≡ cond whole m going → usable ≡ cond closed 0 unplayed → r ≡ cond (ltb j k) own usable → r ≡ open_mask A closed values k m j
   unfolding open_mask
   open_chosen closed whole m j own going unplayed usable r a b w c d e =
       e ∙ ap₂ (cond (ltb j k)) a (d ∙ ap (cond closed 0) (c ∙ ap₂ (λ x y. cond x m y) w b))
 
-module _ (index rows : List ℕ) (v : Variables) (p : Position) where
-  -- A cause at variable j; none below j, and none at j.
-  pub stuck-here : (j : ℕ) (r : Bool) → j < v.n → r ≡ cause_at index rows v p j → r ≡ true → true ≡ stuck_to index rows v p v.n
-  unfolding stuck_to
-  stuck-here j r h e q = sym (holds (some_in v.n (λ j. true) (cause_at index rows v p) j h tt (true_holds (sym e ∙ q))))
-
-  pub stuck-next : (j : ℕ) (r : Bool) → stuck_to index rows v p j ≡ false → r ≡ cause_at index rows v p j → r ≡ false → stuck_to index rows v p (j + 1) ≡ false
-  unfolding stuck_to some
-  stuck-next j r e q f = rw (add-one j, sym q ∙ f) e
-
+module _ (A : Arrays) (p : Position) where
   module _ (closed : Bool) where
-    pub masks_next : (w : List ℕ) (j r : ℕ) → j < 32 → w ≡ spread (open_masks index rows v p closed j) → r ≡ open_at index rows v p closed j
-        → set w j r ≡ spread (open_masks index rows v p closed (j + 1))
+    pub masks_next : (w : List ℕ) (j r : ℕ) → j < 32 → w ≡ spread (open_masks A p closed j) → r ≡ open_at A p closed j
+        → set w j r ≡ spread (open_masks A p closed (j + 1))
     unfolding open_masks
-    masks_next w j r h e q = listed_next (open_at index rows v p closed) w j r h e q
+    masks_next w j r h e q = listed_next (open_at A p closed) w j r h e q
 
-    pub counts-next : (w : List ℕ) (j m r : ℕ) → j < 32 → w ≡ spread (mask_counts index rows v p closed j) → m ≡ open_at index rows v p closed j
-        → r ≡ count 16 (bit m) → set w j r ≡ spread (mask_counts index rows v p closed (j + 1))
+    pub counts-next : (w : List ℕ) (j m r : ℕ) → j < 32 → w ≡ spread (mask_counts A p closed j) → m ≡ open_at A p closed j
+        → r ≡ count 16 (bit m) → set w j r ≡ spread (mask_counts A p closed (j + 1))
     unfolding mask_counts
-    counts-next w j m r h e q c = listed_next (λ i. count 16 (bit (open_at index rows v p closed i))) w j r h e (c ∙ ap (λ (x : ℕ). count 16 (bit x)) q)
+    counts-next w j m r h e q c = listed_next (λ i. count 16 (bit (open_at A p closed i))) w j r h e (c ∙ ap (λ (x : ℕ). count 16 (bit x)) q)
 
-    pub all_done : (m c : List ℕ) (j : ℕ) → j ≡ v.n → closed ≡ stuck_to index rows v p v.n → m ≡ spread (open_masks index rows v p closed j) → c ≡ spread (mask_counts index rows v p closed j)
-        → record { answer = Done; masks = m; counts = c } ≡ open_all index rows v p
+    pub all_done : (m c : List ℕ) (j : ℕ) → j ≡ A.own → closed ≡ stuck_to A p A.own → m ≡ spread (open_masks A p closed j) → c ≡ spread (mask_counts A p closed j)
+        → record { masks = m; counts = c } ≡ open_all A p
     unfolding open_all
     all_done m c j e s f g = rw (f, g, e, s)
 
@@ -101,18 +93,22 @@ module _ (index rows : List ℕ) (v : Variables) (p : Position) where
 denied : (a b : Bool) → a ≡ not b → a ≡ false → T b
 denied a b e f = true_holds (not-false b (sym e ∙ f))
 
-module _ (P : Problem) (v : Variables) (near index rows : List ℕ) (h : Poses P v near index rows) (p : Position) (fits : T (fits_in p v.n v.domains)) (long : length p.values ≡ 32) where
+-- The domain of each of their own variables.
+own_domain : (P : Problem) (A : Arrays) → PosesOwn P A → (i : ℕ) → i < A.own → get_or P.domain i 0 ≡ get_or A.domains i 0
+own_domain P A h i b = ap (λ (l : List ℕ). get_or l i 0) h.domain ∙ get_or-take A.own A.domains i 0 b
+
+module _ (P : Problem) (A : Arrays) (h : PosesOwn P A) (p : Position) (fits : T (fits_in p A.own A.domains)) (long : length p.values ≡ 32) where
   abbrev n : ℕ
-  n = v.n
+  n = A.own
 
   abbrev u : ℕ
-  u = v.universal
+  u = A.universal
 
   abbrev D : List ℕ
-  D = v.domains
+  D = A.domains
 
   domain : (j : ℕ) → j < n → get_or P.domain j 0 ≡ get_or D j 0
-  domain = posed_domain P v near index rows h
+  domain = own_domain P A h
 
   few : p.plays ≤ n
   few = fits_plays p n D fits
@@ -134,7 +130,7 @@ module _ (P : Problem) (v : Variables) (near index rows : List ℕ) (h : Poses P
   unfolding value_at
   value_is i k = mod-eq_of_lt (value_small i k) ∙ sym (get_d_plays p i k)
 
-  row_is : (i j a : ℕ) → i < p.plays → j < n → a < 16 → bit (row_in index rows i (value_at p.values i) j) a ≡ P.compatible i (get_or (plays_of p) i 0) j a
+  row_is : (i j a : ℕ) → i < p.plays → j < n → a < 16 → bit (row_in A i (value_at p.values i) j) a ≡ P.compatible i (get_or (plays_of p) i 0) j a
   row_is i j a b k c =
       let v : value_at p.values i < 16 = omega (arith, value_is i b, get_d_plays p i b, value_small i b) in
       sym (h.states.row i (value_at p.values i) j a (omega (arith, few)) v k c) ∙ ap (λ (x : ℕ). P.compatible i x j a) (value_is i b)
@@ -147,29 +143,29 @@ module _ (P : Problem) (v : Variables) (near index rows : List ℕ) (h : Poses P
   -- ---- a cause at a variable
 
   abbrev cause : ℕ → Bool
-  cause = cause_at index rows v p
+  cause = cause_at A p
 
   module _ (j : ℕ) (k : j < n) where
     -- The values played before variable j that its own goes with.
-    clash_is : j < p.plays → play_clashes index rows p.values j ≡ not (each j (λ i. true) (λ i. P.compatible i (get_or (plays_of p) i 0) j (get_or (plays_of p) j 0)))
+    clash_is : j < p.plays → play_clashes A p.values j ≡ not (each j (λ i. true) (λ i. P.compatible i (get_or (plays_of p) i 0) j (get_or (plays_of p) j 0)))
     unfolding play_clashes
     clash_is b =
         let s : value_at p.values j < 16 = omega (arith, value_is j b, get_d_plays p j b, value_small j b) in
-        going_none index rows p.values j (2 ^ value_at p.values j) j (λ i a. P.compatible i (get_or (plays_of p) i 0) j a) (pow-lt {j = 16} s) (λ i a l c. row_is i j a (omega arith) k c)
+        going_none A p.values j (2 ^ value_at p.values j) j (λ i a. P.compatible i (get_or (plays_of p) i 0) j a) (pow-lt {j = 16} s) (λ i a l c. row_is i j a (omega arith) k c)
         ∙ ap not (some_single 16 (value_at p.values j) (λ a. each j (λ i. true) (λ i. P.compatible i (get_or (plays_of p) i 0) j a)) s
         ∙ ap (λ (x : ℕ). each j (λ i. true) (λ i. P.compatible i (get_or (plays_of p) i 0) j x)) (value_is j b))
 
-    none_is : eqb (going_with index rows p.values p.plays (get_or D j 0) j) 0 ≡ not (some 16 (domains P.domain j) (goes_with_plays P (plays_of p) j))
+    none_is : eqb (going_with A p.values p.plays (get_or D j 0) j) 0 ≡ not (some 16 (domains P.domain j) (goes_with_plays P (plays_of p) j))
     unfolding domains
     none_is =
-        going_none index rows p.values p.plays (get_or D j 0) j (λ i a. P.compatible i (get_or (plays_of p) i 0) j a) (domain_small j k) (λ i a l c. row_is i j a l k c)
+        going_none A p.values p.plays (get_or D j 0) j (λ i a. P.compatible i (get_or (plays_of p) i 0) j a) (domain_small j k) (λ i a l c. row_is i j a l k c)
         ∙ ap not (some_eq 16 (bit (get_or D j 0)) _ _ (λ a _. sym (free j a)))
         ∙ ap (λ (m : ℕ). not (some 16 (bit m) (goes_with_plays P (plays_of p) j))) (sym (domain j k))
 
-    all_is : eqb (going_with index rows p.values p.plays (get_or D j 0) j) (get_or D j 0) ≡ each 16 (domains P.domain j) (goes_with_plays P (plays_of p) j)
+    all_is : eqb (going_with A p.values p.plays (get_or D j 0) j) (get_or D j 0) ≡ each 16 (domains P.domain j) (goes_with_plays P (plays_of p) j)
     unfolding domains
     all_is =
-        going_all index rows p.values p.plays (get_or D j 0) j (λ i a. P.compatible i (get_or (plays_of p) i 0) j a) (domain_small j k) (λ i a l c. row_is i j a l k c)
+        going_all A p.values p.plays (get_or D j 0) j (λ i a. P.compatible i (get_or (plays_of p) i 0) j a) (domain_small j k) (λ i a l c. row_is i j a l k c)
         ∙ each_eq 16 (bit (get_or D j 0)) _ _ (λ a _. sym (free j a))
         ∙ ap (λ (m : ℕ). each 16 (bit m) (goes_with_plays P (plays_of p) j)) (sym (domain j k))
 
@@ -187,7 +183,7 @@ module _ (P : Problem) (v : Variables) (near index rows : List ℕ) (h : Poses P
 
   -- ---- a cause at some variable
 
-  module _ (e : stuck_to index rows v p n ≡ false) where
+  module _ (e : stuck_to A p n ≡ false) where
     calm : (j : ℕ) → j < n → cause j ≡ false
     unfolding stuck_to
     calm j k = fails λ t. clash e (some_in n (λ j. true) cause j k tt t)
@@ -220,12 +216,12 @@ module _ (P : Problem) (v : Variables) (near index rows : List ℕ) (h : Poses P
           let r = w.value j l g s in
           T_not (some 16 (domains P.domain j) (goes_with_plays P (plays_of p) j)) (rw (at_existential j k b s) at t) (some_in 16 (domains P.domain j) (goes_with_plays P (plays_of p) j) r.0 r.1 r.2 r.3)
 
-  usable_none : Usable P (plays_of p) → stuck_to index rows v p n ≡ false
+  usable_none : Usable P (plays_of p) → stuck_to A p n ≡ false
   unfolding stuck_to
   usable_none w = fails λ t. let r = some_out n (λ j. true) cause t in usable_here w r.0 r.1 r.3
 
-  stuck_is : stuck_to index rows v p n ≡ stuck P (plays_of p)
-  stuck_is = same_false (stuck_to index rows v p n) (stuck P (plays_of p)) (λ e. usable_in P (plays_of p) (usable_at e)) (λ e. usable_none (usable_out P (plays_of p) e))
+  stuck_is : stuck_to A p n ≡ stuck P (plays_of p)
+  stuck_is = same_false (stuck_to A p n) (stuck P (plays_of p)) (λ e. usable_in P (plays_of p) (usable_at e)) (λ e. usable_none (usable_out P (plays_of p) e))
 
   -- ---- the masks
 
@@ -234,7 +230,7 @@ module _ (P : Problem) (v : Variables) (near index rows : List ℕ) (h : Poses P
 
   -- The mask of an unplayed variable j, universal or not.
   unplayed : (j : ℕ) → j < n → (s c : Bool) → bit u j ≡ c
-      → cond s 0 (cond c (get_or D j 0) (going_with index rows p.values p.plays (get_or D j 0) j))
+      → cond s 0 (cond c (get_or D j 0) (going_with A p.values p.plays (get_or D j 0) j))
       ≡ mask_of 16 (λ a. not s && (domains P.domain j a && cond c true (goes_with_plays P (plays_of p) j a)))
   unfolding domains mask_of
   unplayed j k true c e = refl
@@ -243,17 +239,17 @@ module _ (P : Problem) (v : Variables) (near index rows : List ℕ) (h : Poses P
       ∙ mask_of_same 16 (bit (get_or D j 0)) (λ a. bit (get_or P.domain j 0) a && true)
       (λ a _. ap (λ (m : ℕ). bit m a) (sym (domain j k)) ∙ sym (and-true (bit (get_or P.domain j 0) a)))
   unplayed j k false false e =
-      mask_of_bits 16 (going_with index rows p.values p.plays (get_or D j 0) j) (going_lt index rows p.values p.plays (get_or D j 0) j (domain_small j k))
-      ∙ mask_of_same 16 (bit (going_with index rows p.values p.plays (get_or D j 0) j)) (λ a. bit (get_or P.domain j 0) a && goes_with_plays P (plays_of p) j a)
-      (λ a c. going_bit index rows p.values p.plays (get_or D j 0) j a (λ i. P.compatible i (get_or (plays_of p) i 0) j a) (λ i b. row_is i j a b k c)
+      mask_of_bits 16 (going_with A p.values p.plays (get_or D j 0) j) (going_lt A p.values p.plays (get_or D j 0) j (domain_small j k))
+      ∙ mask_of_same 16 (bit (going_with A p.values p.plays (get_or D j 0) j)) (λ a. bit (get_or P.domain j 0) a && goes_with_plays P (plays_of p) j a)
+      (λ a c. going_bit A p.values p.plays (get_or D j 0) j a (λ i. P.compatible i (get_or (plays_of p) i 0) j a) (λ i b. row_is i j a b k c)
       ∙ ap₂ (λ (m : ℕ) (b : Bool). bit m a && b) (sym (domain j k)) (sym (free j a)))
 
   -- The mask over the arrays, and the test, by whether the variable is played.
-  mask_played : (j : ℕ) → j < p.plays → open_at index rows v p closed j ≡ 2 ^ get_or (plays_of p) j 0
+  mask_played : (j : ℕ) → j < p.plays → open_at A p closed j ≡ 2 ^ get_or (plays_of p) j 0
   unfolding open_at open_mask
   mask_played j b = rw (lt-ltb j p.plays b, value_is j b)
 
-  mask_unplayed : (j : ℕ) → p.plays ≤ j → open_at index rows v p closed j ≡ cond closed 0 (cond (bit u j) (get_or D j 0) (going_with index rows p.values p.plays (get_or D j 0) j))
+  mask_unplayed : (j : ℕ) → p.plays ≤ j → open_at A p closed j ≡ cond closed 0 (cond (bit u j) (get_or D j 0) (going_with A p.values p.plays (get_or D j 0) j))
   unfolding open_at open_mask
   mask_unplayed j b = rw (le-ltb j p.plays b)
 
@@ -267,7 +263,7 @@ module _ (P : Problem) (v : Variables) (near index rows : List ℕ) (h : Poses P
   test_unplayed j a k b = rw (size, le-ltb j p.plays b, h.states.side j k)
 
   -- The mask of variable j over the arrays is that of its open values.
-  open_same : (j : ℕ) → j < n → open_at index rows v p closed j ≡ mask_of 16 (is_open P (plays_of p) j)
+  open_same : (j : ℕ) → j < n → open_at A p closed j ≡ mask_of 16 (is_open P (plays_of p) j)
   open_same j k =
       by_lt j p.plays
       (λ b. mask_played j b
@@ -277,14 +273,14 @@ module _ (P : Problem) (v : Variables) (near index rows : List ℕ) (h : Poses P
       ∙ unplayed j k closed (bit u j) refl
       ∙ mask_of_same 16 (λ a. not closed && (domains P.domain j a && cond (bit u j) true (goes_with_plays P (plays_of p) j a))) (is_open P (plays_of p) j) (λ a _. sym (test_unplayed j a k b)))
 
-  masks_are : open_masks index rows v p closed n ≡ open_values P (plays_of p)
+  masks_are : open_masks A p closed n ≡ open_values P (plays_of p)
   unfolding open_masks open_values masks_of
   masks_are =
-      list_of_same n (open_at index rows v p closed) (λ j. mask_of 16 (is_open P (plays_of p) j)) open_same
+      list_of_same n (open_at A p closed) (λ j. mask_of 16 (is_open P (plays_of p) j)) open_same
       ∙ ap (λ (k : ℕ). list_of k (λ j. mask_of 16 (is_open P (plays_of p) j))) (sym h.states.size)
 
   -- Counting the ones of a mask counts the open values.
-  count_is : (j : ℕ) → j < n → count 16 (bit (open_at index rows v p closed j)) ≡ count 16 (is_open P (plays_of p) j)
+  count_is : (j : ℕ) → j < n → count 16 (bit (open_at A p closed j)) ≡ count 16 (is_open P (plays_of p) j)
   unfolding open_values open_counts masks_of
   count_is j k =
       let b : j < P.n = omega (arith, h.states.size) in
@@ -294,25 +290,25 @@ module _ (P : Problem) (v : Variables) (near index rows : List ℕ) (h : Poses P
       ∙ sym (open_count P (plays_of p) j b)
       ∙ get_d_list_of P.n (λ i. count 16 (is_open P (plays_of p) i)) j b
 
-  counts_are : mask_counts index rows v p closed n ≡ open_counts P (plays_of p)
+  counts_are : mask_counts A p closed n ≡ open_counts P (plays_of p)
   unfolding mask_counts open_counts
   counts_are =
-      list_of_same n (λ j. count 16 (bit (open_at index rows v p closed j))) (λ j. count 16 (is_open P (plays_of p) j)) count_is
+      list_of_same n (λ j. count 16 (bit (open_at A p closed j))) (λ j. count 16 (is_open P (plays_of p) j)) count_is
       ∙ ap (λ (k : ℕ). list_of k (λ j. count 16 (is_open P (plays_of p) j))) (sym h.states.size)
 
 -- ---- the reply
 
-module _ (P : Problem) (v : Variables) (near index rows : List ℕ) (h : Poses P v near index rows) (p : Position) where
-  test_same : fit_test v.n v.domains p ≡ fit_test P.n P.domain p
-  test_same = fit_same P v.n v.domains record { size = h.states.size; domain = posed_domain P v near index rows h } p
+module _ (P : Problem) (A : Arrays) (h : PosesOwn P A) (p : Position) where
+  test_same : fit_test A.own A.domains p ≡ fit_test P.n P.domain p
+  test_same = fit_same P A.own A.domains record { size = h.states.size; domain = own_domain P A h } p
 
-  pub open_refused : (e k : ℕ) → fit_test v.n v.domains p ≡ Not e k → record { answer = Refused e; masks = replicate 32 0; counts = replicate 32 0 } ≡ open_in P p
-  unfolding open_in answer_by list_by
-  open_refused e k q = rw (sym test_same ∙ q)
+  pub open_refused_lem : (e : Reason) → fit_test A.own A.domains p ≡ Err e → Err e ≡ open_in P p
+  unfolding open_in
+  open_refused_lem e q = passed_stops _ _ test_same q
 
-  pub open_done : (r : Opened) → length p.values ≡ 32 → fit_test v.n v.domains p ≡ Fine → r ≡ open_all index rows v p → r ≡ open_in P p
-  unfolding open_all open_in answer_by list_by
+  pub open_done : (r : Opened) → length p.values ≡ 32 → fit_test A.own A.domains p ≡ Fine → r ≡ open_all A p → Ok r ≡ open_in P p
+  unfolding open_all opened_after open_in
   open_done r long q e =
-      let t = fit_fine v.n v.domains p q in
-      rw (sym test_same ∙ q) (e ∙ rw (stuck_is P v near index rows h p t long) (ap₂ (λ (m c : List ℕ). record { answer = Done; masks = spread m; counts = spread c })
-      (masks_are P v near index rows h p t long) (counts_are P v near index rows h p t long)))
+      let t = fit_fine A.own A.domains p q in
+      passed_goes _ _ test_same q (e ∙ rw (stuck_is P A h p t long) (ap₂ (λ (m c : List ℕ). record { masks = spread m; counts = spread c })
+      (masks_are P A h p t long) (counts_are P A h p t long)))

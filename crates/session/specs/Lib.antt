@@ -2,10 +2,10 @@
 
 -- "A play adds at the next place, a take-back clears the last", with the refusals 23, 20, 10 and 21.
 pub mod Plays
--- The same over a file, which is read first.
-pub mod Files
 -- "Open options", with the refusal 23.
 pub mod Opening
+-- The same over a file, which is read first.
+pub mod Files
 -- What each call tells of a file and a position, and the position that it leads to.
 pub mod Told
 -- Calls one after another, each on the position that the last one left.

@@ -1,46 +1,52 @@
 -- What play, take-back and open values tell of a file and a position, and the position that a play or a take-back leads to: by the
 -- file's verdict first, then by the tests.
-use Rattle.std.specs.Prelude.{ℕ, List, [], ◌++◌, replicate}
-use Rattle.refusal.specs.Told.{Told, replied, refused, refused_at}
-use Rattle.file_decoder.specs.Read.{read_first}
+use Rattle.std.specs.Prelude.{ℕ, Result, Ok, Err, List, [], ◌++◌, replicate}
+use Rattle.refusal.specs.declared.reason.Refusal.{Refusal}
+use Rattle.refusal.specs.Told.{Told, refusal_told, told_by}
 use Rattle.position.specs.declared.Position.{Position}
-use Rattle.session.specs.declared.Answer.{Answer}
-use Rattle.session.specs.declared.Answer.TheVariants.{Done, Refused, RefusedAt}
 use Rattle.session.specs.declared.Opened.{Opened}
-use Rattle.session.specs.Files.{play_file, take_back_file}
-use Rattle.session.specs.Opening.{open_in}
+use Rattle.session.specs.Files.{play_file, take_back_file, open_file}
 
--- Each case of an answer in document 01's numbers, with the values that a finished reply has: none beside the position; masks and counts.
-unfoldable pub told_with : List ℕ → Answer → Told
-told_with values Done = replied values
-told_with values (Refused e) = refused e
-told_with values (RefusedAt e p) = refused_at e p
+-- Each case of a reply in document 01's numbers: a finished play or take-back has no values beside the position, open values have 32 masks,
+-- then 32 counts.
+unfoldable pub told : Result Position Refusal → Told
+told r = told_by (λ q. []) refusal_told r
 
-unfoldable pub told : Answer → Told
-told a = told_with [] a
+unfoldable pub told_opened : Result Opened Refusal → Told
+told_opened r = told_by (λ o. o.masks ++ o.counts) refusal_told r
 
-unfoldable pub told_opened : Opened → Told
-told_opened o = told_with (o.masks ++ o.counts) o.answer
+-- The position that a call leaves, from `old`: "A refused call leaves position, list, room and buffer with their old contents."
+unfoldable pub left : Position → Result Position Refusal → Position
+left old (Ok q) = q
+left old (Err e) = old
+
+-- The masks and counts of a reply. "Nothing else is returned": of a refused call both are zero.
+unfoldable pub masks_in : Result Opened Refusal → List ℕ
+masks_in (Ok o) = o.masks
+masks_in (Err e) = replicate 32 0
+
+unfoldable pub counts_in : Result Opened Refusal → List ℕ
+counts_in (Ok o) = o.counts
+counts_in (Err e) = replicate 32 0
 
 module _ (f : List ℕ) (p : Position) where
   unfoldable pub play_told : ℕ → Told
-  play_told a = told (play_file f p a).answer
+  play_told a = told (play_file f p a)
 
   unfoldable pub play_left : ℕ → Position
-  play_left a = (play_file f p a).position
+  play_left a = left p (play_file f p a)
 
   unfoldable pub take_back_told : Told
-  take_back_told = told (take_back_file f p).answer
+  take_back_told = told (take_back_file f p)
 
   unfoldable pub take_back_left : Position
-  take_back_left = (take_back_file f p).position
+  take_back_left = left p (take_back_file f p)
 
-  -- A finished reply tells 32 masks, then 32 counts. "Nothing else is returned": of a refused call both are zero.
   unfoldable pub open_told : Told
-  open_told = read_first f refused_at (λ P. told_opened (open_in P p))
+  open_told = told_opened (open_file f p)
 
   unfoldable pub masks_shown : List ℕ
-  masks_shown = read_first f (λ e k. replicate 32 0) (λ P. (open_in P p).masks)
+  masks_shown = masks_in (open_file f p)
 
   unfoldable pub counts_shown : List ℕ
-  counts_shown = read_first f (λ e k. replicate 32 0) (λ P. (open_in P p).counts)
+  counts_shown = counts_in (open_file f p)

@@ -1,85 +1,61 @@
 // The session's core by value: a play, a take-back and the open values of a position. Each call reads the file first, then tests the
 // position, then its argument. It rests on `file_reader`, `file_decoder` and `position`. `play`, `take_back` and `open_values` are open
-// to callers.
+// to callers; `left` is for the crates that keep a position between calls.
 #![tactic(auto)]
 
 ghost use Rattle.std.specs.Prelude.{◌≡◌};
-ghost use Rattle.session.specs.Told.{told, play_told, play_left, take_back_told, take_back_left};
-ghost use Rattle.session.specs.Told.{told_opened, open_told, masks_shown, counts_shown};
+ghost use Rattle.session.specs.Told.{told, left, play_told, play_left, take_back_told, take_back_left};
+ghost use Rattle.session.specs.Told.{told_opened, masks_in, counts_in, open_told, masks_shown, counts_shown};
 
-mod files;
 mod open;
 mod plays;
 
 use file_decoder::decode;
-use files::{play_file, take_back_file};
+use file_reader::read;
 use open::open_in;
+use plays::{play_in, take_back_in};
 use position::Position;
-use solver_arrays::{ROWS, Variables};
+use refusal::Refusal;
 
-// What a call answers: done; refused by number; the file's refusal with its place.
-#[derive(Clone, Copy)]
-pub enum Answer {
-    Done,
-    Refused(u8),
-    RefusedAt(u8, usize),
-}
-
-// What a play or a take-back answers, and the position that it leads to; a refused call returns the one that it was given.
-#[derive(Clone, Copy)]
-pub struct Played {
-    pub answer: Answer,
-    pub position: Position,
-}
-
-// The open values of each variable, those still usable, as a mask, and how many they are. Zero at n and above, and where the call is
-// refused.
+// The open values of each variable, those still usable, as a mask, and how many they are. Zero at n and above.
 #[derive(Clone, Copy)]
 pub struct Opened {
-    pub answer: Answer,
     pub masks: [u16; 32],
     pub counts: [u8; 32],
 }
 
-// Plays this value of the next variable.
-pub fn play(f: &[u8], p: Position, value: usize) -> Played
-    ensures answer_value { told result.answer ≡ play_told f.now p value }
-    ensures position_value { result.position ≡ play_left f.now p value }
+// Plays this value of the next variable; replies the position that it leads to.
+pub fn play(f: &[u8], p: Position, value: usize) -> Result<Position, Refusal>
+    ensures answer_value { told result ≡ play_told f.now p value }
+    ensures position_value { left p result ≡ play_left f.now p value }
 {
-    play_file(f, p, value)
+    let r = read(f)?;
+    let q = play_in(r.head.n as usize, &r.domains, p, value)?;
+    Ok(q)
 }
 
-// Takes the last play back.
-pub fn take_back(f: &[u8], p: Position) -> Played
-    ensures answer_value { told result.answer ≡ take_back_told f.now p }
-    ensures position_value { result.position ≡ take_back_left f.now p }
+// Takes the last play back; replies the position that it leads to.
+pub fn take_back(f: &[u8], p: Position) -> Result<Position, Refusal>
+    ensures answer_value { told result ≡ take_back_told f.now p }
+    ensures position_value { left p result ≡ take_back_left f.now p }
 {
-    take_back_file(f, p)
+    let r = read(f)?;
+    let q = take_back_in(r.head.n as usize, &r.domains, p)?;
+    Ok(q)
+}
+
+// The position that a play or a take-back leaves: a refused call leaves the one that it was given.
+pub fn left(p: Position, reply: Result<Position, Refusal>) -> Position
+    ensures { result ≡ left p reply }
+{
+    reply.unwrap_or(p)
 }
 
 // The open values of every variable.
-pub fn open_values(f: &[u8], p: Position) -> Opened
+pub fn open_values(f: &[u8], p: Position) -> Result<Opened, Refusal>
     ensures result_value { told_opened result ≡ open_told f.now p }
-    ensures masks_value { (result.masks ≡ masks_shown f.now p) × (result.counts ≡ counts_shown f.now p) }
+    ensures masks_value { (masks_in result ≡ masks_shown f.now p) × (counts_in result ≡ counts_shown f.now p) }
 {
-    let mut near = [0u32; 32];
-    let mut index = [0u16; 1024];
-    let mut rows = [0u16; ROWS];
-    let d = decode(f, &mut near, &mut index, &mut rows);
-    if d.refused {
-        return Opened {
-            answer: Answer::RefusedAt(d.number, d.place),
-            masks: [0u16; 32],
-            counts: [0u8; 32],
-        };
-    }
-    // The file's own variables: the first n of those decoded.
-    let v = d.variables;
-    let domains = v.domains;
-    let own = Variables {
-        n: d.n,
-        universal: v.universal,
-        domains: domains,
-    };
-    open_in(&index, &rows, own, p)
+    let arrays = decode(f)?;
+    Ok(open_in(&arrays, p)?)
 }

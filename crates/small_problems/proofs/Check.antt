@@ -7,9 +7,8 @@ use native.Mathlib.Omega.{arith}
 use lib.ListN.{get_or}
 use lib.Dec.{T, eqb, eqb→eq, ltb, ltb→lt}
 use Rattle.mask.proofs.Logic.{and_out}
-use Rattle.refusal.specs.declared.Verdict.{Verdict}
-use Rattle.refusal.specs.declared.Verdict.TheVariants.{Fine}
-use Rattle.refusal.specs.declared.Verdict.TheVariants.{Refused as Not}
+use Rattle.std.specs.Prelude.{Ok, Err, is_ok}
+use Rattle.refusal.specs.Chain.{Verdict, Fine}
 use Rattle.refusal.specs.Told.{Told, replied, refused, refused_at}
 use Rattle.file_decoder.specs.FileProblem.{problem_of}
 use Rattle.file_records.specs.Records.{verdict_of}
@@ -35,15 +34,10 @@ bytes_of [] t k = omega arith
 bytes_of (b ∷ f) t zero = ltb→lt b 256 (and_out (ltb b 256) (is_bytes f) t).0
 bytes_of (b ∷ f) t (suc k) = bytes_of f (and_out (ltb b 256) (is_bytes f) t).1 k
 
--- The verdict is fine.
-unfoldable pub is_fine : Verdict → Bool
-is_fine Fine = true
-is_fine (Not e p) = false
-
-pub fine_of : (v : Verdict) → T (is_fine v) → v ≡ Fine
-unfolding is_fine
-fine_of Fine t = refl
-fine_of (Not _ _) t = elim t [ ]
+-- A verdict that the test takes is fine.
+pub fine_of : (v : Verdict) → T (is_ok v) → v ≡ Fine
+fine_of (Ok u) t = refl
+fine_of (Err e) t = elim t [ ]
 
 -- Two lists of numbers, and two replies, are the same. No line names a file's refusal.
 unfoldable pub same_numbers : List ℕ → List ℕ → Bool
@@ -101,7 +95,7 @@ and_then_lem false k t = elim t [ ]
 unfoldable pub passes : Row → Bool
 passes r =
     let f = r.file in
-    is_bytes f && and_then (is_fine (verdict_of f)) (λ t. stages_pass f (read_once f (fine_of (verdict_of f) t)) r.stages)
+    is_bytes f && and_then (is_ok (verdict_of f)) (λ t. stages_pass f (read_once f (fine_of (verdict_of f) t)) r.stages)
 
 unfoldable pub rows_pass : List Row → Bool
 rows_pass [] = true
@@ -131,7 +125,7 @@ unfolding passes
 pass_holds r t =
     let f = r.file in
     let h = and_out (is_bytes f) _ t in
-    let k = and_then_lem (is_fine (verdict_of f)) _ h.1 in
+    let k = and_then_lem (is_ok (verdict_of f)) _ h.1 in
     record { bytes = bytes_of f h.0; fine = fine_of (verdict_of f) k.0; answered = λ set words known enough. stages_hold f (fine_of (verdict_of f) k.0) set words known enough r.stages k.1 }
 
 pub rows_hold : (rs : List Row) → T (rows_pass rs) → RowsHold rs

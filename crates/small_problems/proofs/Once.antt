@@ -5,8 +5,7 @@ use mathlib.Core.Path.{◌≡◌}
 use mathlib.Core.Bool.{Bool, false, ◌&&◌, ◌||◌}
 use mathlib.Core.List.{List}
 use lib.Dec.{T}
-use Rattle.refusal.specs.declared.Verdict.{Verdict}
-use Rattle.refusal.specs.declared.Verdict.TheVariants.{Fine}
+use Rattle.refusal.specs.Chain.{Verdict, Fine}
 use Rattle.file_layout.specs.Layout.{n_of}
 use Rattle.file_records.specs.Records.{verdict_of}
 use Rattle.file_reader.specs.Reading.{domain_of, universal_of}

@@ -6,10 +6,9 @@ use mathlib.Core.List.{List, [], ◌∷◌}
 use lib.ListN.{length}
 use borrow.Author.Tests.{le-leb}
 use Rattle.mask.proofs.Logic.{holds}
-use Rattle.refusal.specs.declared.Verdict.TheVariants.{Fine}
 use Rattle.refusal.specs.Replied.{replied_for}
-use Rattle.refusal.specs.Chain.{◌then◌, need}
-use Rattle.refusal.specs.Told.{Told, replied, refused_at}
+use Rattle.refusal.specs.Chain.{Fine, ◌then◌, need}
+use Rattle.refusal.specs.Told.{Told, replied, fault_told}
 use Rattle.rule_set.specs.RuleSet.{greatest_set, is_rule_set}
 use Rattle.file_records.specs.Records.{verdict_of}
 use Rattle.file_reader.specs.Reading.{header_of}
@@ -50,8 +49,8 @@ module _ (f : List ℕ) (set words : ℕ) (fine : verdict_of f ≡ Fine) (known 
   P = problem_of f fine
 
   -- A call that reads the file first.
-  reads : (reply : verdict_of f ≡ Fine → Told) → read_by f refused_at reply ≡ reply fine
-  reads reply = read_fine f refused_at reply fine
+  reads : (reply : verdict_of f ≡ Fine → Told) → read_by f fault_told reply ≡ reply fine
+  reads reply = read_fine f fault_told reply fine
 
   -- In a position that calls reach, judging has nothing to refuse.
   judge_plain : (cs : List Call) → judge_told f (reached_by f cs) set words ≡ replied (cond (verdict P (standing P cs)) 1 0 ∷ [])
@@ -71,6 +70,6 @@ module _ (f : List ℕ) (set words : ℕ) (fine : verdict_of f ≡ Fine) (known 
   answer_plain cs opening = (demand_3 f fine cs set words).1
   answer_plain cs (calling c) = reached-told f fine cs c
   answer_plain cs (arc l) = reads _
-  answer_plain cs (arc_leaving l) = ap replied (read_fine f (λ e p. l) _ fine)
+  answer_plain cs (arc_leaving l) = ap replied (read_fine f (λ e. l) _ fine)
   answer_plain cs (pure_at x l) = reads _
   answer_plain cs (interchangeable_at x l) = reads _

@@ -5,11 +5,11 @@ use mathlib.Core.List.{[], ◌∷◌, ◌++◌}
 use lib.ListN.{replicate}
 use Rattle.mask.specs.Range.{some, each, count}
 use Rattle.mask.specs.Mask.{bit, mask_of}
-use Rattle.refusal.specs.Chain.{◌then◌, need, only}
+use Rattle.refusal.specs.Chain.{◌then◌, need, only, placed}
 use Rattle.file_layout.specs.Numbers.{counts_fit, in_order, pair_of, row_fits, rows_fit, constraint_fits}
 use Rattle.file_layout.specs.Layout.{word, marked, opened, rules_of, variables_at, domain_at, universal_at, row_at, pair_at, constraints_at, after_constraints, end_at}
 use Rattle.file_records.specs.Records.{qp_test, rs_test, variable_test as variableFine, variables_test, constraint_test, last_pair, constraints_test, en_test, rest_test, verdict_of}
-use Rattle.file_reader.specs.Reading.{rule_numbers, header_numbers, head_of, domain_of, universal_of, universal_bits, header_for, header_of}
+use Rattle.file_reader.specs.Reading.{header_numbers, head_of, domain_of, universal_of, universal_bits, header_for, header_of}
 use Rattle.file_lookup.specs.Lookup.{place_to, pair_place, look_for, look_up, rows_at}
 use Rattle.file_constraints.specs.Pairs.{found, allows}
 use Rattle.game.specs.Game.{put, turn, satisfied, won, wins}
@@ -32,7 +32,7 @@ use Rattle.small_problems.specs.Table.{g1, table}
 use Rattle.small_problems.specs.Claim.{RowsHold}
 use Rattle.small_problems.proofs.Once.{on_the_way, read_once}
 use Rattle.small_problems.proofs.Plain.{plainly}
-use Rattle.small_problems.proofs.Check.{is_bytes, is_fine, same_numbers, same_told, lines_pass, stages_pass, and_then, passes, rows_pass, rows_hold}
+use Rattle.small_problems.proofs.Check.{is_bytes, same_numbers, same_told, lines_pass, stages_pass, and_then, passes, rows_pass, rows_hold}
 
 -- Groups of definitions to compute with: `unfolding checking` opens every definition that the test of the table comes to.
 layout : Unit {0}
@@ -40,7 +40,7 @@ unfolding words variables constraints file
 layout = tt
 
 reading : Unit {0}
-unfolding some each bit mask_of ◌then◌ need only counts_fit in_order pair_of row_fits rows_fit constraint_fits word marked opened rules_of variables_at domain_at universal_at row_at pair_at constraints_at after_constraints end_at qp_test rs_test variableFine variables_test constraint_test last_pair constraints_test en_test rest_test verdict_of rule_numbers header_numbers head_of universal_bits header_for header_of place_to pair_place look_for look_up rows_at
+unfolding some each bit mask_of ◌then◌ need only placed counts_fit in_order pair_of row_fits rows_fit constraint_fits word marked opened rules_of variables_at domain_at universal_at row_at pair_at constraints_at after_constraints end_at qp_test rs_test variableFine variables_test constraint_test last_pair constraints_test en_test rest_test verdict_of header_numbers head_of universal_bits header_for header_of place_to pair_place look_for look_up rows_at
 reading = tt
 
 game : Unit {0}
@@ -52,7 +52,7 @@ unfolding domain_of universal_of found allows list_test variable_test replied_fo
 replies = tt
 
 checking : Unit {0}
-unfolding layout reading game replies on_the_way read_once is_bytes is_fine same_numbers same_told lines_pass stages_pass and_then passes rows_pass
+unfolding layout reading game replies on_the_way read_once is_bytes same_numbers same_told lines_pass stages_pass and_then passes rows_pass
 checking = tt
 
 -- "G1 in hex: 51 50 02 01 00 56 41 03 00 56 45 03 00 43 54 00 01 02 00 01 00, 28 zero bytes, 45 4E."

@@ -1,7 +1,7 @@
 -- What it means that the rows of a table hold.
 use Rattle.std.specs.Prelude.{ℕ, ◌≤◌, ◌<◌, ◌≡◌, List, [], ◌∷◌, get_or}
 use Rattle.rule_set.specs.RuleSet.{greatest_set}
-use Rattle.refusal.specs.declared.Verdict.TheVariants.{Fine}
+use Rattle.refusal.specs.Chain.{Fine}
 use Rattle.file_reader.specs.Reading.{verdict_of}
 use Rattle.file_decoder.specs.FileProblem.{problem_of}
 use Rattle.game.specs.Calls.{Call}

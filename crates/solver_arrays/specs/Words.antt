@@ -1,7 +1,8 @@
 -- The words of a turn: the n domains from 0 on, the n reasons from 32 on, each in two words with the low one first, the n values of a leaf from
 -- 96 on.
-use Rattle.std.specs.Prelude.{◌≡◌, cond, ◌&&◌, List, ℕ, ◌+◌, ◌-◌, ◌*◌, ◌/◌, ◌%◌, ◌<◌, eqb, ltb, leb, get_or, length, set}
+use Rattle.std.specs.Prelude.{◌≡◌, cond, ◌&&◌, List, ℕ, ◌+◌, ◌-◌, ◌*◌, ◌/◌, ◌%◌, ◌<◌, eqb, ltb, leb, get_or, length, set, Result, Ok, Err}
 use Rattle.game.specs.Lists.{list_of}
+use Rattle.solver_arrays.specs.declared.words.Loss.{Loss}
 
 -- The list of domains, and of reasons, that the words w hold.
 unfoldable pub list_in : ℕ → List ℕ → List ℕ
@@ -36,3 +37,8 @@ holding n w l R = list_of (length w) (word_of n w l R)
 -- None of the first n words is zero.
 abbrev pub Nonzero : ℕ → List ℕ → Type 0
 Nonzero n w = (j : ℕ) → j < n → ¬ (get_or w j 0 ≡ 0)
+
+-- The conflict set of a loss; nothing where there is none.
+abbrev pub conflict_of : {T : Type 0} → Result T Loss → ℕ
+conflict_of (Ok x) = 0
+conflict_of (Err e) = e.conflict

@@ -1,12 +1,16 @@
-// Reasons among the words of a turn: 32 bits each, in two words with the low one first.
-ghost use Rattle.std.specs.Prelude.{◌≡◌, ◌≤◌, ◌<◌, length};
+// The words of a turn, reasons among them: 32 bits each, in two words with the low one first. The values of a position.
+ghost use Rattle.std.specs.Prelude.{◌≡◌, ◌%◌, ◌≤◌, ◌<◌, length};
 ghost use Rattle.std.specs.Int.Bits.{bit_or};
 ghost use Rattle.solver_arrays.specs.Words.{reason_in, put_reason};
+ghost use Rattle.solver_arrays.specs.Going.{value_at};
 
-fn wide(x: u16) -> u32
-    ensures { (result ≡ x) × (result < 65536) }
-{
-    x as u32
+// The words of a turn.
+pub type Words = [u16; 128];
+
+// A loss that the rules of a turn find, and a set of variables that it is lost because of.
+#[derive(Clone, Copy)]
+pub struct Loss {
+    pub conflict: u32,
 }
 
 // The reason of variable i.
@@ -14,7 +18,7 @@ pub fn reason(w: &[u16], i: usize) -> u32
     requires { (96 ≤ length w.now) × (i < 32) }
     ensures { result ≡ reason_in w.now i }
 {
-    wide(w[32 + 2 * i]) + 65536 * wide(w[33 + 2 * i])
+    w[32 + 2 * i] as u32 + 65536 * w[33 + 2 * i] as u32
 }
 
 // r becomes the reason of variable i.
@@ -33,4 +37,12 @@ pub fn add_reason(w: &mut [u16], i: usize, r: u32)
 {
     let joined = reason(w, i) | r;
     put_reason(w, i, joined);
+}
+
+// The value at place i. One that was played is below 16, so the cut changes nothing.
+pub fn value_at(values: &[u8; 32], i: usize) -> usize
+    requires { i < 32 }
+    ensures { (result ≡ value_at values.now i) × (result < 16) }
+{
+    values[i] as usize % 16
 }

@@ -3,7 +3,8 @@
 // read: the first 17,995 bytes of any input are refused as all of it is (`reply_tail` there).
 #![tactic(auto)]
 
-use formula_entries::{WrittenFormula, write_formula};
+use formula_entries::write_formula;
+use refusal::{Fault, Refusal};
 use report_text::render_refusal;
 use standard_input::{read_full, zeros};
 use std::io;
@@ -14,10 +15,7 @@ const TEXT: usize = 4131214;
 
 // Writes the first k bytes, if there are so many.
 fn write_front(rt: &impl Print, text: &[u8], k: usize) -> io::Result<()> {
-    if k <= text.len() {
-        return io::writer(rt).write_all(&text[..k]);
-    }
-    Ok(())
+    io::writer(rt).write_all(text.get(..k).unwrap_or(&[]))
 }
 
 fn write_text(rt: &impl Print, text: &[u8; TEXT], k: usize) -> io::Result<()> {
@@ -25,13 +23,13 @@ fn write_text(rt: &impl Print, text: &[u8; TEXT], k: usize) -> io::Result<()> {
 }
 
 // The line of a refused file.
-fn write_refusal(rt: &impl Print, number: u8, place: usize) -> io::Result<()> {
+fn write_refusal(rt: &impl Print, fault: Fault) -> io::Result<()> {
     let mut line = [0u8; 64];
-    let k = render_refusal(number as usize, place, &mut line);
+    let k = render_refusal(u8::from(fault.reason) as usize, fault.place, &mut line);
     write_front(rt, &line, k)
 }
 
-fn formula_of(f: &[u8], text: &mut [u8; TEXT]) -> WrittenFormula {
+fn formula_of(f: &[u8], text: &mut [u8; TEXT]) -> Result<usize, Refusal> {
     write_formula(f, text)
 }
 
@@ -39,10 +37,9 @@ fn main(rt: HostRuntime) -> io::Result<()> {
     let mut input: [u8; 17995] = zeros();
     let n = read_full(&mut rt.reader(), &mut input)?;
     let mut text = [0u8; TEXT];
-    let w = formula_of(&input[..n], &mut text);
-    match w {
-        WrittenFormula::Length(k) => write_text(&rt, &text, k),
-        WrittenFormula::Refused(_) => write_front(&rt, b"refused 12\n", 11),
-        WrittenFormula::RefusedAt(number, place) => write_refusal(&rt, number, place),
+    match formula_of(&input[..n], &mut text) {
+        Ok(k) => write_text(&rt, &text, k),
+        Err(Refusal::InCall(_)) => write_front(&rt, b"refused 12\n", 11),
+        Err(Refusal::InFile(fault)) => write_refusal(&rt, fault),
     }
 }

@@ -6,72 +6,54 @@
 mod stored;
 
 use position::Position;
-use refusal::both;
-use session::{Played, play, take_back};
+use refusal::Refusal;
+use session::{play, take_back};
 use std::io;
 use stored::{Call, call_at};
-use trial_stored::{JUDGE, MARK, OPEN, PLAY, TAKE_BACK, answers, opens, position_at, told};
-use trial_vectors::{
-    Answer, Tally, before_cases, byte, case_count, counted, input, moved, part, place, report,
-    same_answer,
-};
+use trial_stored::{Kind, answers, opens, position_at};
+use trial_vectors::{Answer, Tally, before_cases, byte, case_count, input, part, place, report};
 
 fn same_position(a: Position, b: Position) -> bool {
     let u = a.values;
     let v = b.values;
-    let mut ok = a.plays == b.plays;
-    let mut i = 0;
-    while i < 32 {
-        ok = both(u[i] == v[i], ok);
-        i += 1;
+    a.plays == b.plays && u == v
+}
+
+// The play or take-back answered as stored, and it led to the stored position.
+fn led(s: &[u8], c: Call, r: Result<Position, Refusal>) -> bool {
+    let a = c.answer;
+    match r {
+        Ok(p) => {
+            let at = place(c.shown);
+            let q = position_at(s, at + 1, byte(s, at), 32);
+            a == Answer::Replied(0, 0) && same_position(p, q)
+        }
+        Err(refusal) => a == Answer::from(refusal),
     }
-    ok
 }
 
-// The call answered a, and it led to that position.
-fn led(d: Played, a: Answer, q: Position) -> bool {
-    let t = d.answer;
-    both(same_answer(told(t), a), same_position(d.position, q))
-}
-
-// A play or a take-back. A refused one leads to where it began.
-fn turned(s: &[u8], f: &[u8], c: Call) -> bool {
+fn agrees(kind: Kind, s: &[u8], f: &[u8], c: Call) -> bool {
     let p = c.position;
-    let a = c.answer;
-    let at = place(c.shown);
-    let q = if a.kind == 0 {
-        position_at(s, at + 1, byte(s, at), 32)
-    } else {
-        p
-    };
-    if c.kind == PLAY {
-        return led(play(f, p, c.argument), a, q);
+    match kind {
+        Kind::Play => led(s, c, play(f, p, c.argument)),
+        Kind::TakeBack => led(s, c, take_back(f, p)),
+        Kind::Open => opens(s, place(c.shown), f, p, c.answer),
+        Kind::Mark => answers(kind, f, p, c.argument, c.room, c.answer),
+        Kind::Judge => answers(kind, f, p, c.argument, c.room, c.answer),
     }
-    led(take_back(f, p), a, q)
-}
-
-fn agrees(s: &[u8], f: &[u8], c: Call) -> bool {
-    if c.kind < MARK {
-        return turned(s, f, c);
-    }
-    let a = c.answer;
-    if c.kind == OPEN {
-        return opens(s, place(c.shown), f, c.position, a);
-    }
-    answers(c.kind, f, c.position, c.argument, c.room, a)
 }
 
 // One case where it is of this kind.
-fn one_case(kind: usize, s: &[u8], t: Tally) -> Tally {
+fn one_case(kind: Kind, s: &[u8], t: Tally) -> Tally {
     let c = call_at(s, t.at);
-    let next = moved(t, c.next);
-    if c.kind != kind {
+    let next = t.moved(c.next);
+    if c.kind != Some(kind) {
         return next;
     }
-    counted(next, agrees(s, part(s, c.start, c.length), c))
+    next.counted(agrees(kind, s, part(s, c.start, c.length), c))
 }
 
-fn all_cases(kind: usize, s: &[u8]) -> Tally {
+fn all_cases(kind: Kind, s: &[u8]) -> Tally {
     let mut t = before_cases();
     for _ in 0..case_count(s) {
         t = one_case(kind, s, t);
@@ -81,9 +63,9 @@ fn all_cases(kind: usize, s: &[u8]) -> Tally {
 
 fn main(rt: HostRuntime) -> io::Result<()> {
     let s = input(&rt);
-    report(&rt, b"play cases ", all_cases(PLAY, &s))?;
-    report(&rt, b"take-back cases ", all_cases(TAKE_BACK, &s))?;
-    report(&rt, b"mark cases ", all_cases(MARK, &s))?;
-    report(&rt, b"open cases ", all_cases(OPEN, &s))?;
-    report(&rt, b"judge cases ", all_cases(JUDGE, &s))
+    report(&rt, b"play cases ", all_cases(Kind::Play, &s))?;
+    report(&rt, b"take-back cases ", all_cases(Kind::TakeBack, &s))?;
+    report(&rt, b"mark cases ", all_cases(Kind::Mark, &s))?;
+    report(&rt, b"open cases ", all_cases(Kind::Open, &s))?;
+    report(&rt, b"judge cases ", all_cases(Kind::Judge, &s))
 }

@@ -1,8 +1,7 @@
 // Where the parts of a stored call stand.
 use position::Position;
-use refusal::{both, either};
-use trial_stored::{JUDGE, MARK, position_at};
-use trial_vectors::{Answer, byte, place, refused, refused_at, replied, word};
+use trial_stored::{Kind, position_at};
+use trial_vectors::{Answer, byte, place, word};
 
 // A file, a position, the kind of call with its argument and the words lent, what it answers, where the answer's bytes stand, and the
 // next call.
@@ -11,7 +10,7 @@ pub struct Call {
     pub start: usize,
     pub length: usize,
     pub position: Position,
-    pub kind: usize,
+    pub kind: Option<Kind>,
     pub argument: usize,
     pub room: usize,
     pub answer: Answer,
@@ -21,25 +20,24 @@ pub struct Call {
 
 // A stored refusal. 1 to 9 are the file's, with their place; but 8 is also the call's. A call's has the place 0, where no RS stands.
 fn refusal_of(number: usize, place: usize) -> Answer {
-    if either(both(number == 8, place == 0), 9 < number) {
-        return refused(number);
+    if number == 8 && place == 0 || 9 < number {
+        Answer::Refused(number)
+    } else {
+        Answer::RefusedAt(number, place)
     }
-    refused_at(number, place)
 }
 
 // What a call of this kind answers, where its refusal, or 0, stands at c and its other numbers at c + 4.
-fn answer_at(s: &[u8], kind: usize, c: usize) -> Answer {
+fn answer_at(s: &[u8], kind: Option<Kind>, c: usize) -> Answer {
     let p = place(c);
     if byte(s, p) != 0 {
         return refusal_of(byte(s, p), word(s, p + 1));
     }
-    if kind == MARK {
-        return replied(word(s, p + 4), word(s, p + 6));
+    match kind {
+        Some(Kind::Mark) => Answer::Replied(word(s, p + 4), word(s, p + 6)),
+        Some(Kind::Judge) => Answer::Replied(byte(s, p + 4), 0),
+        _ => Answer::Replied(0, 0),
     }
-    if kind == JUDGE {
-        return replied(byte(s, p + 4), 0);
-    }
-    replied(0, 0)
 }
 
 // The call that stands from p on.
@@ -47,7 +45,7 @@ pub fn call_at(s: &[u8], p: usize) -> Call {
     let at = place(p);
     let length = word(s, at);
     let q = at + 2 + length;
-    let kind = byte(s, q + 33);
+    let kind = Kind::of(byte(s, q + 33));
     let c = q + 37;
     Call {
         start: at + 2,

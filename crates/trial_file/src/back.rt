@@ -2,9 +2,8 @@
 ghost use Rattle.std.specs.Prelude.{◌≤◌, ◌<◌};
 
 use file_lookup::{look_up, rows};
-use file_reader::{Head, Header, read};
-use file_writer::{Written, write};
-use refusal::both;
+use file_reader::{Head, read};
+use file_writer::write;
 use trial_vectors::{byte, part, place, word};
 
 fn put(out: &mut [u16; 8928], p: usize, x: usize)
@@ -18,10 +17,8 @@ fn put(out: &mut [u16; 8928], p: usize, x: usize)
 fn put_rows(out: &mut [u16; 8928], p: usize, rows: &[u8])
     requires { p ≤ 2000000 }
 {
-    let mut a = 0;
-    while a < 16 {
+    for a in 0..16 {
         put(out, p + a, word(rows, 2 * a));
-        a += 1;
     }
 }
 
@@ -32,7 +29,7 @@ fn put_shown(out: &mut [u16; 8928], c: usize, f: &[u8], k: usize) -> usize
     let i = k / 32;
     let j = k % 32;
     let p = place(c);
-    if !both(i < j, j < byte(f, 2)) {
+    if !(i < j && j < byte(f, 2)) {
         return p;
     }
     let shown = rows(f, look_up(f, i, j));
@@ -47,19 +44,14 @@ fn put_shown(out: &mut [u16; 8928], c: usize, f: &[u8], k: usize) -> usize
 
 fn put_all(out: &mut [u16; 8928], f: &[u8]) {
     let mut c = 0;
-    let mut k = 0;
-    while k < 1024 {
+    for k in 0..1024 {
         c = put_shown(out, c, f, k);
-        k += 1;
     }
 }
 
 // The first k numbers, or none where there are not so many.
 fn front<'a>(numbers: &'a [u16], k: usize) -> &'a [u16] {
-    if numbers.len() < k {
-        return &numbers[0..0];
-    }
-    &numbers[0..k]
+    numbers.get(..k).unwrap_or(&[])
 }
 
 // The first k bytes are those of f.
@@ -76,21 +68,21 @@ fn written_back(f: &[u8], head: Head, domains: &[u16; 32], numbers: &[u16; 8928]
     let d = front(domains, n);
     let c = front(numbers, 18 * m);
     let universal = head.universal as u64;
-    let w = write(&mut buf, n, m, rules, universal, d, c);
-    match w {
-        Written::Length(k) => begins(&buf, k, f),
-        Written::Refused(_) => false,
+    match write(&mut buf, n, m, rules, universal, d, c) {
+        Ok(k) => begins(&buf, k, f),
+        Err(_) => false,
     }
 }
 
 pub fn comes_back(f: &[u8]) -> bool {
-    let r = read(f);
-    let h = r.header;
-    let domains = r.domains;
     let mut numbers = [0u16; 8928];
     put_all(&mut numbers, f);
-    match h {
-        Header::Refused(_, _) => false,
-        Header::Accepted(head) => written_back(f, head, &domains, &numbers),
+    match read(f) {
+        Ok(r) => {
+            let head = r.head;
+            let domains = r.domains;
+            written_back(f, head, &domains, &numbers)
+        }
+        Err(_) => false,
     }
 }

@@ -2,7 +2,7 @@
 ghost use Rattle.std.specs.Prelude.{◌≤◌};
 
 use crate::reading::agrees;
-use trial_vectors::{Tally, counted, none_yet, part};
+use trial_vectors::{Tally, part};
 
 fn put(buf: &mut [u8; 256], p: usize, x: u8) {
     if p < 256 {
@@ -17,28 +17,27 @@ fn put_mark(buf: &mut [u8; 256], p: usize, mark: &[u8; 2])
     put(buf, p + 1, mark[1]);
 }
 
-// The record RS, none where k is 255. Tells the place behind it.
-fn put_rules(buf: &mut [u8; 256], k: u8) -> usize
+// The record RS, if there is one. Tells the place behind it.
+fn put_rules(buf: &mut [u8; 256], rules: Option<u8>) -> usize
     ensures { result ≤ 8 }
 {
-    if k == 255 {
-        return 5;
+    match rules {
+        None => 5,
+        Some(k) => {
+            put_mark(buf, 5, b"RS");
+            put(buf, 7, k);
+            8
+        }
     }
-    put_mark(buf, 5, b"RS");
-    put(buf, 7, k);
-    8
 }
 
 // n existential variables with one value.
 fn put_variables(buf: &mut [u8; 256], p: usize, n: u8)
     requires { p ≤ 8 }
 {
-    let count = n as usize;
-    let mut i = 0;
-    while i < count {
+    for i in 0..n as usize {
         put_mark(buf, p + 4 * i, b"VE");
         put(buf, p + 4 * i + 2, 1);
-        i += 1;
     }
 }
 
@@ -61,7 +60,7 @@ fn begins(buf: &[u8; 256], k: usize, number: usize, place: usize) -> bool {
 }
 
 // Whether reading a file of n variables, m constraints and this rule set tells this number and place.
-fn row(n: u8, m: u8, rules: u8, number: usize, place: usize) -> bool {
+fn row(n: u8, m: u8, rules: Option<u8>, number: usize, place: usize) -> bool {
     let mut buf = [0u8; 256];
     put_mark(&mut buf, 0, b"QP");
     put(&mut buf, 2, n);
@@ -74,13 +73,13 @@ fn row(n: u8, m: u8, rules: u8, number: usize, place: usize) -> bool {
 }
 
 pub fn all_rows() -> Tally {
-    let empty = [0u8; 1];
-    let a = counted(none_yet(), agrees(part(&empty, 0, 0), 1, 0));
-    let b = counted(a, row(32, 0, 255, 0, 0));
-    let c = counted(b, row(33, 0, 255, 3, 0));
-    let d = counted(c, row(0, 0, 255, 3, 0));
-    let e = counted(d, row(2, 1, 255, 0, 0));
-    let f = counted(e, row(2, 2, 255, 3, 0));
-    let g = counted(f, row(2, 1, 127, 0, 0));
-    counted(g, row(2, 1, 128, 8, 5))
+    Tally::default()
+        .counted(agrees(&[], 1, 0))
+        .counted(row(32, 0, None, 0, 0))
+        .counted(row(33, 0, None, 3, 0))
+        .counted(row(0, 0, None, 3, 0))
+        .counted(row(2, 1, None, 0, 0))
+        .counted(row(2, 2, None, 3, 0))
+        .counted(row(2, 1, Some(127), 0, 0))
+        .counted(row(2, 1, Some(128), 8, 5))
 }

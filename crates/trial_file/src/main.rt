@@ -9,25 +9,27 @@ mod pairs;
 mod reading;
 
 use std::io;
-use trial_vectors::{
-    Tally, before_cases, byte, case_count, counted, input, moved, part, place, report, word,
-};
+use trial_vectors::{Tally, before_cases, byte, case_count, input, part, place, report, word};
 
-// One file in one trial. 0 compares what reading tells; of an accepted file, 1 looks up every pair, 2 writes it back.
-fn tried(f: &[u8], trial: usize, number: usize, w: usize, t: Tally) -> Tally {
-    if trial == 0 {
-        return counted(t, reading::agrees(f, number, w));
-    }
-    if number != 0 {
-        return t;
-    }
-    if trial == 1 {
-        return pairs::all_pairs(f, t);
-    }
-    counted(t, back::comes_back(f))
+// What is tried: to compare what reading tells; of an accepted file, to look up every pair, or to write it back.
+#[derive(Clone, Copy)]
+enum Trial {
+    Reading,
+    Pairs,
+    Back,
 }
 
-fn one_case(s: &[u8], trial: usize, t: Tally) -> Tally {
+// One file in one trial.
+fn tried(f: &[u8], trial: Trial, number: usize, w: usize, t: Tally) -> Tally {
+    match trial {
+        Trial::Reading => t.counted(reading::agrees(f, number, w)),
+        Trial::Pairs if number == 0 => pairs::all_pairs(f, t),
+        Trial::Back if number == 0 => t.counted(back::comes_back(f)),
+        _ => t,
+    }
+}
+
+fn one_case(s: &[u8], trial: Trial, t: Tally) -> Tally {
     let at = place(t.at);
     let length = word(s, at);
     let p = at + 2 + length;
@@ -38,10 +40,10 @@ fn one_case(s: &[u8], trial: usize, t: Tally) -> Tally {
         word(s, p + 1),
         t,
     );
-    moved(u, p + 3)
+    u.moved(p + 3)
 }
 
-fn all_cases(s: &[u8], trial: usize) -> Tally {
+fn all_cases(s: &[u8], trial: Trial) -> Tally {
     let mut t = before_cases();
     for _ in 0..case_count(s) {
         t = one_case(s, trial, t);
@@ -51,8 +53,8 @@ fn all_cases(s: &[u8], trial: usize) -> Tally {
 
 fn main(rt: HostRuntime) -> io::Result<()> {
     let s = input(&rt);
-    report(&rt, b"reading cases ", all_cases(&s, 0))?;
-    report(&rt, b"pairs looked up ", all_cases(&s, 1))?;
-    report(&rt, b"files written back ", all_cases(&s, 2))?;
+    report(&rt, b"reading cases ", all_cases(&s, Trial::Reading))?;
+    report(&rt, b"pairs looked up ", all_cases(&s, Trial::Pairs))?;
+    report(&rt, b"files written back ", all_cases(&s, Trial::Back))?;
     report(&rt, b"boundary rows ", boundary::all_rows())
 }

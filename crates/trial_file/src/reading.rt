@@ -1,12 +1,9 @@
 // What reading tells of a file: accepted, or refused with a number and a place.
-use file_reader::{Header, read};
-use refusal::both;
+use file_reader::read;
 
 pub fn agrees(f: &[u8], number: usize, place: usize) -> bool {
-    let r = read(f);
-    let h = r.header;
-    match h {
-        Header::Accepted(_) => both(number == 0, place == 0),
-        Header::Refused(e, p) => both(number == e as usize, place == p),
+    match read(f) {
+        Ok(_) => number == 0 && place == 0,
+        Err(fault) => number == u8::from(fault.reason) as usize && place == fault.place,
     }
 }

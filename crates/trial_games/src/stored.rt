@@ -3,7 +3,7 @@ ghost use Rattle.std.specs.Prelude.{◌<◌};
 
 use position::Position;
 use trial_stored::position_at;
-use trial_vectors::{Answer, byte, first_variable, part, place, refused, replied, word};
+use trial_vectors::{Answer, byte, first_variable, part, place, word};
 
 // A file, a position, what judging and marking answer, where the open values stand, and the next game.
 #[derive(Clone, Copy)]
@@ -22,9 +22,9 @@ fn marks_of(f: &[u8], d: usize, winning: usize) -> Answer
     requires { d < 256 }
 {
     if d < byte(f, 2) {
-        replied(winning, word(f, first_variable(f) + 4 * d + 2))
+        Answer::Replied(winning, word(f, first_variable(f) + 4 * d + 2))
     } else {
-        refused(22)
+        Answer::Refused(22)
     }
 }
 
@@ -40,7 +40,7 @@ pub fn game_at(s: &[u8], p: usize) -> Game {
         start: at + 2,
         length: length,
         position: position_at(s, q + 1, plays, plays),
-        verdict: replied(byte(s, v), 0),
+        verdict: Answer::Replied(byte(s, v), 0),
         marks: marks_of(f, plays, word(s, v + 1)),
         open: v + 3,
         next: v + 3 + 3 * byte(f, 2),

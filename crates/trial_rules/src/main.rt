@@ -11,19 +11,11 @@ mod lists;
 mod refusals;
 
 use calls::called;
-use lists::{masks, same_masks};
-use refusal::both;
+use lists::masks;
 use std::io;
 use trial_vectors::{
-    Tally, before_cases, byte, case_count, counted, input, moved, part, place, replied, report,
-    same_answer, word,
+    Answer, Tally, before_cases, byte, case_count, input, part, place, report, word,
 };
-
-fn at_most_32(n: usize) -> usize
-    ensures { result ≤ 32 }
-{
-    if n < 32 { n } else { 32 }
-}
 
 // Rule `rule` on the list at p tells this number; of rules 1 and 2 the list then is that at q, of the others it is as before.
 fn agrees(
@@ -38,11 +30,11 @@ fn agrees(
 ) -> bool
     requires { (p ≤ 2000000) × (q ≤ 2000000) }
 {
-    let n = at_most_32(byte(f, 2));
+    let n = byte(f, 2).min(32);
     let mut l = masks(s, p, n);
     let left = masks(s, q, n);
     let r = called(rule, f, &mut l, n, x, a);
-    both(same_answer(r, replied(number, 0)), same_masks(&l, &left))
+    r == Answer::Replied(number, 0) && l == left
 }
 
 // The case whose list stands at p, of a file with n variables, in one trial.
@@ -54,19 +46,13 @@ fn tried(rule: usize, s: &[u8], f: &[u8], p: usize, n: usize) -> bool
     let x = byte(s, c);
     let a = byte(s, c + 1);
     let e = c + 3 + 2 * n;
-    if rule == 1 {
-        return agrees(1, s, f, p, q + 1, x, a, byte(s, q));
+    match rule {
+        1 => agrees(1, s, f, p, q + 1, x, a, byte(s, q)),
+        2 => agrees(2, s, f, p, c + 3, x, a, byte(s, c + 2)),
+        3 => agrees(3, s, f, p, p, x, a, byte(s, e)),
+        4 => agrees(4, s, f, p, p, x, a, word(s, e + 1)),
+        _ => agrees(5, s, f, p, p, x, a, word(s, e + 3)),
     }
-    if rule == 2 {
-        return agrees(2, s, f, p, c + 3, x, a, byte(s, c + 2));
-    }
-    if rule == 3 {
-        return agrees(3, s, f, p, p, x, a, byte(s, e));
-    }
-    if rule == 4 {
-        return agrees(4, s, f, p, p, x, a, word(s, e + 1));
-    }
-    agrees(5, s, f, p, p, x, a, word(s, e + 3))
 }
 
 fn one_case(rule: usize, s: &[u8], t: Tally) -> Tally {
@@ -75,8 +61,7 @@ fn one_case(rule: usize, s: &[u8], t: Tally) -> Tally {
     let f = part(s, at + 2, length);
     let n = byte(f, 2);
     let p = at + 2 + length;
-    let u = counted(t, tried(rule, s, f, p, n));
-    moved(u, p + 6 * n + 9)
+    t.counted(tried(rule, s, f, p, n)).moved(p + 6 * n + 9)
 }
 
 fn all_cases(rule: usize, s: &[u8]) -> Tally {

@@ -2,9 +2,7 @@
 ghost use Rattle.std.specs.Prelude.{◌≤◌};
 
 use crate::calls::called;
-use crate::lists::same_masks;
-use refusal::both;
-use trial_vectors::{Tally, counted, none_yet, part, refused, refused_at, same_answer};
+use trial_vectors::{Answer, Tally, part};
 
 fn sample() -> [u8; 51] {
     let mut g = [0u8; 51];
@@ -45,7 +43,7 @@ fn refuses(rule: usize, u: u16, v: u16, n: usize, x: usize, a: usize, number: us
     let before = lent(u, v);
     let mut l = lent(u, v);
     let r = called(rule, part(&g, 0, 51), &mut l, n, x, a);
-    both(same_answer(r, refused(number)), same_masks(&l, &before))
+    r == Answer::Refused(number) && l == before
 }
 
 // On the first k bytes of the file, with a list, a variable and a value that would be refused too, it refuses by this number and place.
@@ -54,50 +52,45 @@ fn refuses_at(rule: usize, k: usize, number: usize, place: usize) -> bool {
     let before = lent(0, 4);
     let mut l = lent(0, 4);
     let r = called(rule, part(&g, 0, k), &mut l, 3, 9, 9);
-    both(
-        same_answer(r, refused_at(number, place)),
-        same_masks(&l, &before),
-    )
+    r == Answer::RefusedAt(number, place) && l == before
 }
 
 // The file's refusals and 13, which all five have; each with a variable and a value that would be refused too.
 fn files_and_lists(rule: usize, t: Tally) -> Tally {
-    let a = counted(t, refuses_at(rule, 0, 1, 0));
-    let b = counted(a, refuses_at(rule, 12, 1, 9));
-    let c = counted(b, refuses_at(rule, 50, 1, 49));
-    let d = counted(c, refuses(rule, 3, 3, 0, 9, 9, 13));
-    let e = counted(d, refuses(rule, 3, 3, 1, 9, 9, 13));
-    let f = counted(e, refuses(rule, 3, 3, 3, 9, 9, 13));
-    let g = counted(f, refuses(rule, 0, 3, 2, 9, 9, 13));
-    let h = counted(g, refuses(rule, 3, 0, 2, 9, 9, 13));
-    let i = counted(h, refuses(rule, 5, 3, 2, 9, 9, 13));
-    counted(i, refuses(rule, 3, 4, 2, 9, 9, 13))
+    t.counted(refuses_at(rule, 0, 1, 0))
+        .counted(refuses_at(rule, 12, 1, 9))
+        .counted(refuses_at(rule, 50, 1, 49))
+        .counted(refuses(rule, 3, 3, 0, 9, 9, 13))
+        .counted(refuses(rule, 3, 3, 1, 9, 9, 13))
+        .counted(refuses(rule, 3, 3, 3, 9, 9, 13))
+        .counted(refuses(rule, 0, 3, 2, 9, 9, 13))
+        .counted(refuses(rule, 3, 0, 2, 9, 9, 13))
+        .counted(refuses(rule, 5, 3, 2, 9, 9, 13))
+        .counted(refuses(rule, 3, 4, 2, 9, 9, 13))
 }
 
 // 11, which all but arc have.
 fn variables(rule: usize, t: Tally) -> Tally {
-    let a = counted(t, refuses(rule, 3, 3, 2, 2, 9, 11));
-    counted(a, refuses(rule, 3, 1, 2, 4294967296, 16, 11))
+    t.counted(refuses(rule, 3, 3, 2, 2, 9, 11))
+        .counted(refuses(rule, 3, 1, 2, 4294967296, 16, 11))
 }
 
 // 10, of the forward check alone: outside the file's mask, outside the lent mask alone, and no value at all.
 fn value_refusals(t: Tally) -> Tally {
-    let a = counted(t, refuses(2, 3, 3, 2, 0, 2, 10));
-    let b = counted(a, refuses(2, 1, 3, 2, 0, 1, 10));
-    let c = counted(b, refuses(2, 3, 2, 2, 1, 0, 10));
-    let d = counted(c, refuses(2, 3, 3, 2, 1, 16, 10));
-    counted(d, refuses(2, 3, 3, 2, 1, 4294967296, 10))
+    t.counted(refuses(2, 3, 3, 2, 0, 2, 10))
+        .counted(refuses(2, 1, 3, 2, 0, 1, 10))
+        .counted(refuses(2, 3, 2, 2, 1, 0, 10))
+        .counted(refuses(2, 3, 3, 2, 1, 16, 10))
+        .counted(refuses(2, 3, 3, 2, 1, 4294967296, 10))
 }
 
 pub fn all_refusals() -> Tally {
-    let mut t = none_yet();
-    let mut rule = 1;
-    while rule < 6 {
+    let mut t = Tally::default();
+    for rule in 1..6 {
         t = files_and_lists(rule, t);
         if rule > 1 {
             t = variables(rule, t);
         }
-        rule += 1;
     }
     value_refusals(t)
 }

@@ -3,20 +3,11 @@
 #![tactic(auto)]
 
 mod calls;
+mod kinds;
 mod positions;
 mod rooms;
 
-pub use calls::{opens, told};
+pub use calls::opens;
+pub use kinds::Kind;
 pub use positions::position_at;
 pub use rooms::{answers, needed};
-
-// The kinds of call, as stored calls number them.
-pub const PLAY: usize = 0;
-
-pub const TAKE_BACK: usize = 1;
-
-pub const MARK: usize = 2;
-
-pub const OPEN: usize = 3;
-
-pub const JUDGE: usize = 4;

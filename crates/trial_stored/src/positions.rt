@@ -9,12 +9,8 @@ pub fn position_at(s: &[u8], p: usize, plays: usize, k: usize) -> Position
     requires { p ≤ 2000000 }
 {
     let mut values = [0u8; 32];
-    let mut i = 0;
-    while i < 32 {
-        if i < k {
-            values[i] = byte(s, p + i) as u8;
-        }
-        i += 1;
+    for i in 0..k.min(32) {
+        values[i] = byte(s, p + i) as u8;
     }
     Position {
         plays: plays,

@@ -1,52 +1,34 @@
 // Judging and marking in a room that is dirty and longer than what is lent.
-ghost use Rattle.std.specs.Prelude.{◌≤◌, length};
+ghost use Rattle.std.specs.Prelude.{◌≤◌};
 
-use crate::JUDGE;
-use judging::{Judged, judge};
-use marking::{Marked, mark};
+use crate::Kind;
+use judging::judge;
+use marking::{Marks, mark};
 use position::Position;
-use refusal::both;
-use trial_vectors::{Answer, byte, refused, refused_at, replied, same_answer};
+use refusal::Refusal;
+use trial_vectors::{Answer, byte};
 
-fn judged(r: Judged) -> Answer {
+fn judged(r: Result<bool, Refusal>) -> Answer {
     match r {
-        Judged::Lost => replied(0, 0),
-        Judged::Won => replied(1, 0),
-        Judged::Refused(e) => refused(e as usize),
-        Judged::RefusedAt(e, p) => refused_at(e as usize, p),
+        Ok(won) => Answer::Replied(won as usize, 0),
+        Err(refusal) => Answer::from(refusal),
     }
 }
 
 // The winning values, and the domain.
-fn marked(r: Marked) -> Answer {
+fn marked(r: Result<Marks, Refusal>) -> Answer {
     match r {
-        Marked::Values(w, d) => replied(w as usize, d as usize),
-        Marked::Refused(e) => refused(e as usize),
-        Marked::RefusedAt(e, p) => refused_at(e as usize, p),
+        Ok(m) => Answer::Replied(m.winning as usize, m.domain as usize),
+        Err(refusal) => Answer::from(refusal),
     }
 }
 
-// A call of this kind lent the first k words; any but JUDGE marks.
-fn asked(kind: usize, f: &[u8], p: Position, set: usize, room: &mut [u16], k: usize) -> Answer
-    requires { k ≤ length room.old }
-{
-    if kind == JUDGE {
-        return judged(judge(f, p, set, &mut room[0..k]));
+// A call of this kind; any but Judge marks.
+fn asked(kind: Kind, f: &[u8], p: Position, set: usize, room: &mut [u16]) -> Answer {
+    match kind {
+        Kind::Judge => judged(judge(f, p, set, room)),
+        _ => marked(mark(f, p, set, room)),
     }
-    marked(mark(f, p, set, &mut room[0..k]))
-}
-
-fn asked_in(
-    kind: usize,
-    f: &[u8],
-    p: Position,
-    set: usize,
-    room: &mut [u16; 1280],
-    k: usize,
-) -> Answer
-    requires { k ≤ 1280 }
-{
-    asked(kind, f, p, set, room, k)
 }
 
 // How many words n variables need.
@@ -59,27 +41,17 @@ pub fn needed(n: usize) -> usize
 
 // The first `used` words are zero, and the others those of a dirty room.
 fn left(room: &[u16; 1280], used: usize) -> bool {
-    let mut ok = true;
-    let mut k = 0;
-    while k < 1280 {
-        let w = if k < used { 0 } else { 7 };
-        ok = both(room[k] == w, ok);
-        k += 1;
-    }
-    ok
+    (0..1280).all(|k| room[k] == if k < used { 0 } else { 7 })
 }
 
-fn at_most_1280(k: usize) -> usize
-    ensures { result ≤ 1280 }
-{
-    if k < 1280 { k } else { 1280 }
-}
-
-// Lent k words of a dirty room, a call of this kind, JUDGE or MARK, answers a. Then the words that it needs are zero, or none where it
+// Lent k words of a dirty room, a call of this kind, Judge or Mark, answers a. Then the words that it needs are zero, or none where it
 // refuses, and all others are as before.
-pub fn answers(kind: usize, f: &[u8], p: Position, set: usize, k: usize, a: Answer) -> bool {
-    let used = if a.kind == 0 { needed(byte(f, 2)) } else { 0 };
+pub fn answers(kind: Kind, f: &[u8], p: Position, set: usize, k: usize, a: Answer) -> bool {
+    let used = match a {
+        Answer::Replied(_, _) => needed(byte(f, 2)),
+        _ => 0,
+    };
     let mut room = [7u16; 1280];
-    let r = asked_in(kind, f, p, set, &mut room, at_most_1280(k));
-    both(same_answer(r, a), left(&room, used))
+    let r = asked(kind, f, p, set, &mut room[..k.min(1280)]);
+    r == a && left(&room, used)
 }

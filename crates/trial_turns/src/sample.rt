@@ -5,10 +5,9 @@
 ghost use Rattle.std.specs.Prelude.{◌<◌};
 
 use crate::along::ruled_along;
-use crate::searches::{is_won, searched};
+use crate::searches::searched;
 use position::Position;
-use refusal::both;
-use trial_vectors::{Tally, counted, none_yet, part};
+use trial_vectors::{Tally, part};
 
 // A byte of the file; none is behind its end.
 fn put(f: &mut [u8; 243], p: usize, b: u8) {
@@ -87,22 +86,22 @@ fn holds_one(conflict: u32) -> bool {
 // Under this set 0, 1, 1 is lost with variable 1 in its conflict set, in a search from there and in one from the start, and 0, 0, 1
 // is won.
 fn blames_one(f: &[u8], set: usize) -> bool {
-    let r = searched(f, after(1), set);
-    let other = searched(f, after(0), set);
-    let found = both(
-        holds_one(r.conflict),
-        holds_one(ruled_along(f, after(1), set).conflict),
-    );
-    let first = r.judged;
-    let second = other.judged;
-    both(both(is_won(first) == false, is_won(second)), found)
+    let Ok(first) = searched(f, after(1), set) else {
+        return false;
+    };
+    let Ok(second) = searched(f, after(0), set) else {
+        return false;
+    };
+    let along = ruled_along(f, after(1), set);
+    !first.won && second.won && holds_one(first.conflict) && along.is_some_and(holds_one)
 }
 
 pub fn all_sets() -> Tally {
     let g = five();
     let f = part(&g, 0, 243);
-    let a = counted(none_yet(), blames_one(f, 33));
-    let b = counted(a, blames_one(f, 35));
-    let c = counted(b, blames_one(f, 111));
-    counted(c, blames_one(f, 127))
+    Tally::default()
+        .counted(blames_one(f, 33))
+        .counted(blames_one(f, 35))
+        .counted(blames_one(f, 111))
+        .counted(blames_one(f, 127))
 }

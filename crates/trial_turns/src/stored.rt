@@ -6,22 +6,18 @@ ghost use Rattle.std.specs.Prelude.{◌≤◌};
 use crate::along::ruled_along;
 use crate::searches::searched;
 use position::Position;
-use refusal::both;
-use search_rules::Said;
 use trial_stored::position_at;
-use trial_vectors::{Tally, before_cases, byte, case_count, counted, moved, part, place, word};
+use trial_vectors::{Tally, before_cases, byte, case_count, part, place, word};
 
-// What is found at this turn: the loss and its conflict set.
-fn found_at(turn: usize, f: &[u8], p: Position, set: usize) -> Said {
-    if turn == 0 {
-        let r = searched(f, p, set);
-        return Said {
-            loss: r.loss,
-            conflict: r.conflict,
-            narrowed: 0,
-        };
+// The conflict set of the loss at this turn, or none.
+fn found_at(turn: usize, f: &[u8], p: Position, set: usize) -> Option<u32> {
+    if turn != 0 {
+        return ruled_along(f, p, set);
     }
-    ruled_along(f, p, set)
+    match searched(f, p, set) {
+        Ok(r) if r.loss => Some(r.conflict),
+        _ => None,
+    }
 }
 
 // The set holds the two words of bits at q.
@@ -40,8 +36,10 @@ fn agrees(s: &[u8], f: &[u8], p: usize, plays: usize) -> bool
 {
     let q = p + 2 + plays;
     let at = position_at(s, p + 2, plays, plays);
-    let found = found_at(byte(s, q), f, at, byte(s, p));
-    both(found.loss, holds(s, q + 3, found.conflict))
+    match found_at(byte(s, q), f, at, byte(s, p)) {
+        Some(conflict) => holds(s, q + 3, conflict),
+        None => false,
+    }
 }
 
 // The next case, counted where all variables are played, or in any case.
@@ -52,12 +50,10 @@ fn one_turn(whole: bool, s: &[u8], t: Tally) -> Tally {
     let p = at + 2 + length;
     let plays = byte(s, p + 1);
     let next = p + 2 + plays + 7;
-    if whole {
-        if plays != byte(f, 2) {
-            return moved(t, next);
-        }
+    if whole && plays != byte(f, 2) {
+        return t.moved(next);
     }
-    moved(counted(t, agrees(s, f, p, plays)), next)
+    t.counted(agrees(s, f, p, plays)).moved(next)
 }
 
 // All cases, or those alone where all variables are played.

@@ -1,23 +1,32 @@
-use mathlib.Core.Path.{refl, sym, ap, ◌∙◌}
+use borrow.Author.Rules.{rules}
+use mathlib.Core.Path.{sym, ap, ◌∙◌}
 use native.Mathlib.Omega.{arith}
-use Rattle.file_reader.proofs.Accepted.{Shows, header_shows, header_refuses}
-use Rattle.file_reader.specs.Reading.{told}
-use Rattle.file_decoder.proofs.Stated.{leaves, ready, enters}
+use Rattle.file_reader.specs.Reading.{told, domains_shown}
+use Rattle.file_reader.proofs.Accepted.{Shows, header_shows, header_refuses, variables_most}
+use Rattle.file_decoder.specs.Tables.{near_start, index_start, rows_start}
+use Rattle.file_decoder.proofs.Stated.{leaves, ready, enters, start_in_range}
 use Rattle.file_decoder.proofs.decode.Goals as goal
-use Rattle.file_decoder.proofs.decode.Goals.{After-constraints_at-q}
+use Rattle.file_decoder.proofs.decode.Goals.{In_ok-r}
 
--- What an accepted header shows of the file.
-shows : (c : After-constraints_at-q) → Shows c.args.f.now c.in-Accepted.head
-shows c = header_shows _ _ (ap told (sym c.in-Accepted.is) ∙ c.read-r.ensures.0)
+-- What a finished reading shows of the file.
+shows : (c : In_ok-r) → Shows c.args.f.now c.in_ok-r.r.head
+shows c = header_shows _ _ (ap told (sym c.in_ok-r.was) ∙ c.read.ensures.0)
 
-pub put_all-requires : goal.put_all-requires
-put_all-requires c = let s = shows (goal.at.put_all-requires c).After-constraints_at-q in ready _ _ _ s.fine c.constraints_at-q.ensures s.constraints
+pub invariant_of-arrays : goal.invariant_of-arrays
+unfolding index_start
+invariant_of-arrays c =
+    let s = shows (goal.at.invariant_of-arrays c).In_ok-r in
+    record { first = omega arith; most = omega (arith, s.variables, variables_most c.args.f.now s.fine); in_range = start_in_range }
 
-pub returns-in-Refused : goal.returns-in-Refused
-returns-in-Refused c = leaves _ _ _ _ _ _ _ _ (header_refuses _ _ _ (ap told (sym c.in-Refused.is) ∙ c.read-r.ensures.0)) refl refl refl refl
+pub put_constraints-requires : goal.put_constraints-requires
+put_constraints-requires c = let s = shows (goal.at.put_constraints-requires c).In_ok-r in ready _ _ _ s.fine c.constraints_at.ensures s.constraints
 
-pub returns-in-Accepted : goal.returns-in-Accepted
-returns-in-Accepted c =
-    let e = c.put_all.ensures in
-    enters _ _ _ _ _ _ _ _ _ _ (λ k. omega (arith, c.type_inv.f k)) (shows (goal.at.returns-in-Accepted c).After-constraints_at-q) c.constraints_at-q.ensures e.near_after e.index_after e.rows_after
-    refl refl refl refl c.read-r.ensures.1
+pub returns-in_err-r : goal.returns-in_err-r
+returns-in_err-r c = leaves _ _ _ (header_refuses _ _ (ap told (sym c.in_err-r.was) ∙ c.read.ensures.0)) (search rules)
+
+pub returns : goal.returns
+unfolding near_start index_start rows_start
+returns c =
+    let e = c.put_constraints.ensures in
+    enters _ _ c.in_ok-r.r.head _ (λ k. omega (arith, c.type_inv.f k)) (shows (goal.at.returns c).In_ok-r) c.constraints_at.ensures
+    e.others.own e.others.n e.others.universal (e.others.domains ∙ (ap domains_shown (sym c.in_ok-r.was) ∙ c.read.ensures.1)) e.near_after e.index_after e.rows_after

@@ -1,20 +1,16 @@
-use borrow.Author.Rules.{rules}
-use mathlib.Core.Path.{refl, ap, ◌∙◌}
-use native.Mathlib.Numerals.{add-one}
+use mathlib.Core.Path.{◌≡◌, sym, ap, ◌∙◌}
 use native.Mathlib.Omega.{arith}
-use Rattle.file_layout.specs.Numbers.{pair_of}
-use Rattle.file_lookup.specs.Lookup.{told, place_to}
+use Rattle.file_lookup.specs.Lookup.{place_to}
+use Rattle.file_lookup.proofs.Lookup.{place_last, place_before}
 use Rattle.file_lookup.proofs.find.Goals as goal
 
-pub loop-k-init : goal.loop-k-init
-unfolding told place_to
-loop-k-init c = (search rules, refl)
+pub returns-then-pair_at-pair : goal.returns-then-pair_at-pair
+returns-then-pair_at-pair c =
+    rw (← c.pair_of-pair.ensures) (sym (place_last _ _ _ _ c.loop-k-test.true (sym c.pair_at.ensures.0 ∙ c.if-pair_at-pair.true)) ∙ c.loop-k.invariant)
 
 pub loop-k-preserved : goal.loop-k-preserved
-unfolding place_to
-loop-k-preserved c =
-    (search rules, rw add-one (c.kept-found.ensures ∙ rw (c.pair_at.ensures.0, c.loop-k.invariant.1)))
+loop-k-preserved c = place_before _ _ _ _ c.loop-k-test.true (λ e. c.if-pair_at-pair.false (c.pair_at.ensures.0 ∙ e)) ∙ c.loop-k.invariant
 
 pub returns : goal.returns
-unfolding pair_of
-returns c = c.loop-k.invariant.1 ∙ ap (place_to _ _ _) (omega arith)
+unfolding place_to
+returns c = let z : 0 ≡ c.loop-k.k = omega arith in rw (← c.pair_of-pair.ensures) (ap (place_to _ _ _) z ∙ c.loop-k.invariant)

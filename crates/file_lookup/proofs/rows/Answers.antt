@@ -1,19 +1,17 @@
-use mathlib.Core.Path.{sym, ◌∙◌}
+use mathlib.Core.Path.{◌≡◌, sym, ◌∙◌}
+use borrow.Author.Rules.{rules}
+use Rattle.std.specs.Prelude.{Ok, Some, None}
 use Rattle.file_lookup.specs.Lookup.{rows_of}
 use Rattle.file_lookup.proofs.Lookup.{rows_of_lem}
 use Rattle.file_lookup.proofs.rows.Goals as goal
 
-pub returns-in-Rows : goal.returns-in-Rows
-returns-in-Rows c = c.rows_at.ensures ∙ sym (rows_of_lem _ _ _ c.in-Rows.is)
+pub returns-in-Ok-Some : goal.returns-in-Ok-Some
+returns-in-Ok-Some c = let q : c.args.found ≡ Ok (Some c.in-Ok-Some.p) = search rules in c.rows_at.ensures ∙ sym (rows_of_lem _ _ _ q)
 
-pub returns-in-Free : goal.returns-in-Free
+pub returns-in-Ok-None : goal.returns-in-Ok-None
 unfolding rows_of
-returns-in-Free c = rw c.in-Free.is
+returns-in-Ok-None c = let q : c.args.found ≡ Ok None = search rules in rw q
 
-pub returns-in-Refused : goal.returns-in-Refused
+pub returns-in-Err : goal.returns-in-Err
 unfolding rows_of
-returns-in-Refused c = rw c.in-Refused.is
-
-pub returns-in-RefusedAt : goal.returns-in-RefusedAt
-unfolding rows_of
-returns-in-RefusedAt c = rw c.in-RefusedAt.is
+returns-in-Err c = rw c.in-Err.is

@@ -3,4 +3,4 @@ use Rattle.host_replies.specs.Replies.{written_of}
 use Rattle.host.proofs.kb_formula.Goals as goal
 
 pub returns : goal.returns
-returns c = record { value = c.formula_shown.ensures ∙ ap written_of c.write_formula.ensures.result_value; buf_after = c.write_formula.ensures.buf_after }
+returns c = record { value = c.from.ensures ∙ ap written_of c.write_formula.ensures.result_value; buf_after = c.write_formula.ensures.buf_after }

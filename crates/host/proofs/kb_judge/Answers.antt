@@ -3,4 +3,4 @@ use Rattle.host_replies.specs.Replies.{judgement_of}
 use Rattle.host.proofs.kb_judge.Goals as goal
 
 pub returns : goal.returns
-returns c = c.judged_shown.ensures ∙ ap judgement_of (c.judge.ensures.result_value ∙ rw c.unpacked-p.ensures refl)
+returns c = c.from.ensures ∙ ap judgement_of (c.judge.ensures.result_value ∙ rw c.unpacked-p.ensures refl)

@@ -3,4 +3,4 @@ use Rattle.host_replies.specs.Replies.{formula_judgement_of}
 use Rattle.host.proofs.kb_judge_formula.Goals as goal
 
 pub returns : goal.returns
-returns c = record { value = c.judged_formula_shown.ensures ∙ ap formula_judgement_of c.judge_formula.ensures.result_value; buf_after = c.judge_formula.ensures.buf_after }
+returns c = record { value = c.from.ensures ∙ ap formula_judgement_of c.judge_formula.ensures.result_value; buf_after = c.judge_formula.ensures.buf_after }

@@ -3,4 +3,4 @@ use Rattle.host_replies.specs.Replies.{found_of}
 use Rattle.host.proofs.kb_look_up.Goals as goal
 
 pub returns : goal.returns
-returns c = c.found_shown.ensures ∙ ap found_of c.look_up.ensures
+returns c = c.from.ensures ∙ ap found_of c.look_up.ensures

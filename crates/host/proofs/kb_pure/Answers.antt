@@ -3,4 +3,4 @@ use Rattle.host_replies.specs.Replies.{values_of}
 use Rattle.host.proofs.kb_pure.Goals as goal
 
 pub returns : goal.returns
-returns c = c.values_shown.ensures ∙ ap values_of c.pure.ensures
+returns c = c.from.ensures ∙ ap values_of c.pure.ensures

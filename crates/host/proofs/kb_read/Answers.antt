@@ -2,4 +2,4 @@ use mathlib.Core.Path.{refl, ◌∙◌}
 use Rattle.host.proofs.kb_read.Goals as goal
 
 pub returns : goal.returns
-returns c = c.reading_shown.ensures ∙ rw (c.read-r.ensures.0, c.read-r.ensures.1) refl
+returns c = c.from.ensures ∙ rw (c.read.ensures.0, c.read.ensures.1) refl

@@ -6,5 +6,5 @@ use Rattle.host.proofs.kb_session_play.Goals as goal
 pub returns : goal.returns
 unfolding moved_of
 returns c =
-    let e = c.kb_play-d.ensures in
+    let e = c.kb_play-moved.ensures in
     (ap (λ (m : MovedPosition). m.answer) e, ap (λ (m : MovedPosition). m.position) e)

@@ -6,5 +6,5 @@ use Rattle.host.proofs.kb_session_take_back.Goals as goal
 pub returns : goal.returns
 unfolding moved_of
 returns c =
-    let e = c.kb_take_back-d.ensures in
+    let e = c.kb_take_back-moved.ensures in
     (ap (λ (m : MovedPosition). m.answer) e, ap (λ (m : MovedPosition). m.position) e)

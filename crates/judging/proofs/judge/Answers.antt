@@ -1,8 +1,12 @@
 use borrow.Author.Rules.{rules}
 use lib.ListN.{length}
-use mathlib.Core.Path.{◌≡◌, ap, ◌∙◌}
+use mathlib.Core.Path.{◌≡◌, sym, ap, ◌∙◌}
+use Rattle.std.specs.Prelude.{Result, Err}
+use Rattle.refusal.specs.declared.reason.Refusal.{Refusal}
 use Rattle.refusal.specs.Told.{Told}
-use Rattle.judging.specs.Searching.{Findings, found}
+use Rattle.search_run.specs.declared.Ran.{Ran}
+use Rattle.judging.specs.Judging.{told}
+use Rattle.judging.specs.Searching.{findings_of, nothing, found}
 use Rattle.judging.proofs.JudgeLaws.{judged-found}
 use Rattle.judging.proofs.judge.Goals as goal
 use Rattle.judging.proofs.judge.Goals.{Start}
@@ -11,8 +15,25 @@ use Rattle.judging.proofs.judge.Goals.{Start}
 long : (c : Start) → length c.args.p.values ≡ 32
 long c = search rules
 
+-- What the search tells.
+abbrev tells : Result Ran Refusal → Told
+tells r = (found r).told
+
+pub returns-in_err-r : goal.returns-in_err-r
+unfolding nothing
+returns-in_err-r c =
+    let q : c.from_residual.result ≡ Err c.in_err-r.field-0.0 = search rules in
+    let s = c.search.ensures in
+    record {
+      result_value = ap told q ∙ sym (ap tells c.in_err-r.was) ∙ ap {B = Told} (λ o. o.told) s.result_value ∙ judged-found _ _ _ _ (long (goal.at.returns-in_err-r c).Start);
+      room_after = s.room_after;
+    }
+
 pub returns : goal.returns
-unfolding found
+unfolding findings_of
 returns c =
-    let s = c.search-s.ensures in
-    record { result_value = ap {B = Told} (λ (o : Findings). o.told) s.result_value ∙ judged-found _ _ _ _ (long (goal.at.returns c).Start); room_after = s.room_after }
+    let s = c.search.ensures in
+    record {
+      result_value = sym (ap tells c.in_ok-r.was) ∙ ap {B = Told} (λ o. o.told) s.result_value ∙ judged-found _ _ _ _ (long (goal.at.returns c).Start);
+      room_after = s.room_after;
+    }

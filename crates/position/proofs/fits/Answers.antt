@@ -1,21 +1,16 @@
 use borrow.Author.Rules.{rules}
-use mathlib.Core.Path.{◌≡◌, refl}
-use native.Mathlib.Numerals.{add-one}
-use native.Mathlib.Omega.{arith}
-use Rattle.mask.specs.Range.{each}
-use Rattle.position.proofs.Fitting.{fits_tested}
-use Rattle.position.specs.Position.{fits_at}
+use borrow.Author.Tests.{lt-leb}
+use mathlib.Core.Path.{refl}
+use Rattle.mask.proofs.Below.{all_below}
+use Rattle.position.proofs.Fitting.{fits-few}
+use Rattle.position.specs.Position.{fits_at, fits_in}
 use Rattle.position.proofs.fits.Goals as goal
 
-pub loop-i-init : goal.loop-i-init
-unfolding each
-loop-i-init c = (search rules, refl)
+pub returns-then-few : goal.returns-then-few
+unfolding fits_at
+returns-then-few c =
+    fits-few c.args.p c.args.n _ _ c.if-few.true (all_below 32 (fits_at c.args.p c.args.domains.now) c.all.ensures.ran refl (λ x b q k. search rules))
 
-pub loop-i-preserved : goal.loop-i-preserved
-unfolding each fits_at
-loop-i-preserved c = (search rules, rw add-one (cc))
-
-pub returns : goal.returns
-returns c =
-    let e : c.loop-i.i ≡ 32 = omega arith in
-    fits_tested _ _ _ _ _ _ e c.loop-i.invariant.1 c.both.ensures
+pub returns-else-few : goal.returns-else-few
+unfolding fits_in
+returns-else-few c = rw (lt-leb _ _ c.if-few.false) refl

@@ -3,8 +3,8 @@ use Rattle.refusal.proofs.needed.Goals as goal
 
 pub returns-then-b : goal.returns-then-b
 unfolding need
-returns-then-b c = rw c.if-b.true
+returns-then-b g c = rw c.if-b.true
 
 pub returns-else-b : goal.returns-else-b
 unfolding need
-returns-else-b c = rw c.if-b.false
+returns-else-b g c = rw c.if-b.false

@@ -1,32 +1,16 @@
 use borrow.Author.Rules.{rules}
-use mathlib.Core.Path.{refl}
-use native.Mathlib.Omega.{arith}
-use Rattle.mask.proofs.Members.{low_lt, rest_lt}
-use Rattle.rule_arc.proofs.FirstLaws.{search-found, search_on, search_end}
-use Rattle.rule_arc.specs.Loss.{barrier}
+use lib.ListN.{get_or}
+use Rattle.mask.proofs.Chains.{serves_members}
+use Rattle.rule_arc.specs.Loss.{bars_in, barrier}
+use Rattle.mask.proofs.Found.{find_first}
 use Rattle.rule_arc.proofs.first_bar.Goals as goal
 
-pub loop-left-init : goal.loop-left-init
-unfolding barrier
-loop-left-init c = (omega arith, refl)
-
-pub offset_bounds-w-k : goal.offset_bounds-w-k
-offset_bounds-w-k c = let l = low_lt 32 _ c.loop-left.invariant.0 c.loop-left-test.true in search rules
-
-pub bounds-w-k : goal.bounds-w-k
-bounds-w-k c = let l = low_lt 32 _ c.loop-left.invariant.0 c.loop-left-test.true in search rules
-
-pub bars-requires : goal.bars-requires
-bars-requires c = let l = low_lt 32 _ c.loop-left.invariant.0 c.loop-left-test.true in search rules
-
-pub returns-then-bars : goal.returns-then-bars
-returns-then-bars c = search-found _ _ _ _ _ c.loop-left.invariant.0 c.loop-left-test.true c.loop-left.invariant.1 c.lowest_32-k.ensures c.bars.ensures c.if-bars.true
-
-pub loop-left-smaller : goal.loop-left-smaller
-loop-left-smaller c = rw c.rest_of_32-left.ensures (rest_lt _ c.loop-left-test.true)
-
-pub loop-left-preserved : goal.loop-left-preserved
-loop-left-preserved c = (search rules, search_on _ _ _ _ _ c.loop-left.invariant.0 c.loop-left-test.true c.loop-left.invariant.1 c.lowest_32-k.ensures c.bars.ensures _ c.if-bars.false c.rest_of_32-left.ensures)
+pub find-requires-clause-callable : goal.find-requires-clause-callable
+find-requires-clause-callable c = serves_members 32 (λ s. s.left) c.args.m c.members_of.ensures (λ x q k. search rules) (λ x l t. search rules)
 
 pub returns : goal.returns
-returns c = search_end _ _ _ c.loop-left.invariant.1 c.loop-left-test.false
+unfolding barrier
+returns c =
+    let a = c.args in
+    find_first 32 (λ s. s.left) _ _ (λ k. bars_in a.arrays.now a.x k (get_or a.w.now a.x 0) (get_or a.w.now k 0)) c.members_of.result _ c.find.result a.m 32
+    c.members_of.ensures c.ranges.m.fits c.find.ensures.ran (λ x l t b q k. search rules)

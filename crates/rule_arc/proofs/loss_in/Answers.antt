@@ -1,19 +1,23 @@
-use borrow.Author.Rules.{rules}
-use Rattle.rule_arc.proofs.FirstLaws.{cover_below}
-use Rattle.rule_arc.proofs.LossSteps.{loss-emptied, loss-stopped, loss_none, stopped-barred}
+use mathlib.Core.Path.{sym, ◌∙◌}
+use native.Mathlib.Omega.{arith}
+use Rattle.mask.proofs.Found.{found_some}
+use Rattle.rule_arc.proofs.LossSteps.{loss-emptied, loss-stopped, loss_none, stop_below}
 use Rattle.rule_arc.proofs.loss_in.Goals as goal
 
-pub lowest_emptied-x-requires : goal.lowest_emptied-x-requires
-lowest_emptied-x-requires c = let p = c.requires in (p.0, p.1, cover_below _ _ _ _ c.everyone.ensures p.3)
+pub reason-requires : goal.reason-requires
+reason-requires c = let r = found_some _ _ _ c.in-Some.ensures in (c.requires.0, omega arith)
 
-pub returns-then-x-n : goal.returns-then-x-n
-returns-then-x-n c = loss-emptied _ _ _ _ _ _ _ _ c.lowest_emptied-x.ensures _ c.if-x-n.true c.reason.ensures
+pub returns-in-Some : goal.returns-in-Some
+returns-in-Some c = loss-emptied _ _ _ _ _ _ c.in-Some.ensures c.reason.ensures
 
-pub reason-requires-then-y-n-2 : goal.reason-requires-then-y-n-2
-reason-requires-then-y-n-2 c = let l = stopped-barred _ _ _ _ _ _ _ _ _ c.lowest_stopped-y.ensures c.if-y-n.true c.first_bar-k.ensures in search rules
+pub reason-requires-in-Some-lowest_stopped : goal.reason-requires-in-Some-lowest_stopped
+reason-requires-in-Some-lowest_stopped c = let l = stop_below _ _ _ _ _ _ c.in-Some-lowest_stopped.ensures in (c.requires.0, omega arith)
 
-pub returns-then-y-n : goal.returns-then-y-n
-returns-then-y-n c = loss-stopped _ _ _ _ _ _ _ _ c.lowest_emptied-x.ensures c.if-x-n.false _ c.lowest_stopped-y.ensures _ _ _ c.if-y-n.true c.first_bar-k.ensures c.reason-then-y-n.ensures c.reason-then-y-n-2.ensures
+pub reason-requires-in-Some-lowest_stopped-2 : goal.reason-requires-in-Some-lowest_stopped-2
+reason-requires-in-Some-lowest_stopped-2 c = let l = stop_below _ _ _ _ _ _ c.in-Some-lowest_stopped.ensures in (c.requires.0, l.1)
+
+pub returns-in-Some-lowest_stopped : goal.returns-in-Some-lowest_stopped
+returns-in-Some-lowest_stopped c = loss-stopped _ _ _ _ (sym c.in_default.is ∙ c.lowest_emptied.ensures) _ _ _ _ c.in-Some-lowest_stopped.ensures c.reason-in-Some-lowest_stopped.ensures c.reason-in-Some-lowest_stopped-2.ensures
 
 pub returns : goal.returns
-returns c = loss_none _ _ _ _ _ _ _ _ c.lowest_emptied-x.ensures c.if-x-n.false _ c.lowest_stopped-y.ensures c.if-y-n.false
+returns c = loss_none _ _ _ _ (sym c.in_default.is ∙ c.lowest_emptied.ensures) (sym c.in_default-lowest_stopped.is ∙ c.lowest_stopped.ensures)

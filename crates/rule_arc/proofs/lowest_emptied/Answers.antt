@@ -1,23 +1,19 @@
 use borrow.Author.Rules.{rules}
+use mathlib.Core.Path.{ap, ◌∙◌}
 use native.Mathlib.Omega.{arith}
-use Rattle.mask.proofs.Members.{low_lt, rest_lt}
-use Rattle.rule_arc.proofs.FirstLaws.{cover_found, cover_on, cover_end}
+use Rattle.mask.proofs.Chains.{serves_members}
+use Rattle.mask.specs.Found.{found}
+use Rattle.rule_arc.specs.Loss.{emptied_in}
+use Rattle.mask.proofs.Found.{find_first, cut_fits}
+use Rattle.rule_arc.proofs.LossSteps.{emptied_first}
 use Rattle.rule_arc.proofs.lowest_emptied.Goals as goal
 
-pub loop-left-init : goal.loop-left-init
-loop-left-init c = (omega arith, c.requires.2)
-
-pub is_emptied-requires : goal.is_emptied-requires
-is_emptied-requires c = let l = low_lt 32 _ c.loop-left.invariant.0 c.loop-left-test.true in search rules
-
-pub returns-then-is_emptied : goal.returns-then-is_emptied
-returns-then-is_emptied c = cover_found _ _ _ _ _ c.loop-left.invariant.1 c.loop-left.invariant.0 c.loop-left-test.true c.lowest_32-x.ensures c.is_emptied.ensures c.if-is_emptied.true
-
-pub loop-left-smaller : goal.loop-left-smaller
-loop-left-smaller c = rw c.rest_of_32-left.ensures (rest_lt _ c.loop-left-test.true)
-
-pub loop-left-preserved : goal.loop-left-preserved
-loop-left-preserved c = (search rules, cover_on _ _ _ _ _ c.loop-left.invariant.1 c.loop-left.invariant.0 c.loop-left-test.true c.lowest_32-x.ensures c.is_emptied.ensures _ c.if-is_emptied.false c.rest_of_32-left.ensures)
+pub find-requires-clause-callable : goal.find-requires-clause-callable
+find-requires-clause-callable c = serves_members 32 (λ s. s.left) _ c.members_of.ensures (λ x q k. search rules) (λ x l t. search rules)
 
 pub returns : goal.returns
-returns c = cover_end _ _ _ c.loop-left.invariant.1 c.loop-left-test.false
+returns c =
+    let a = c.args in
+    find_first 32 (λ s. s.left) _ _ (emptied_in a.universal a.w.now) c.members_of.result _ c.find.result _ a.n
+    c.members_of.ensures (cut_fits a.n a.touched _ c.requires.0 (omega arith) c.everyone.ensures) c.find.ensures.ran (λ x l t b q k. search rules)
+    ∙ ap (found a.n) (emptied_first a.n a.universal a.touched _ a.w.now c.everyone.ensures c.requires.2)

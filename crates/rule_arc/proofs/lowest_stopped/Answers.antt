@@ -1,27 +1,30 @@
 use borrow.Author.Rules.{rules}
-use lib.Bits.{and_le_l}
+use mathlib.Core.Path.{sym, ap, subst, ◌∙◌}
 use native.Mathlib.Omega.{arith}
-use Rattle.mask.proofs.Members.{low_lt, rest_lt}
-use Rattle.rule_arc.proofs.FirstLaws.{cover_found, cover_on, cover_end, cover_below}
-use Rattle.rule_arc.proofs.LossSteps.{stopped_universal_in}
+use Rattle.mask.proofs.Chains.{took_lt}
+use Rattle.rule_arc.proofs.LossSteps.{Stopping, stopping_start, stopping-found, stopping_on, stopping_end}
 use Rattle.rule_arc.proofs.lowest_stopped.Goals as goal
 
-pub loop-left-init : goal.loop-left-init
-loop-left-init c =
-    let l = and_le_l c.args.universal c.everyone.result in
-    (omega arith, cover_below _ _ _ _ c.everyone.ensures (λ x _ t. stopped_universal_in _ _ _ _ _ _ x t))
+pub loop-x-init : goal.loop-x-init
+loop-x-init c =
+    let a = c.args in
+    let e = ap (λ s. s.left) c.into_iter-x-iterator.ensures.into_iter_gives ∙ c.members_of-x-items.ensures in
+    subst (Stopping a.arrays.now a.touched a.w.now a.arrays.now.n) (sym e) (stopping_start _ _ _ _ _ c.args.arrays.now.most (omega arith) c.everyone.ensures)
 
-pub is_stopped-requires : goal.is_stopped-requires
-is_stopped-requires c = let l = low_lt 32 _ c.loop-left.invariant.0 c.loop-left-test.true in search rules
+pub offset_bounds-arrays-x : goal.offset_bounds-arrays-x
+offset_bounds-arrays-x c = let l = took_lt c.in-Some.ensures.steps in search rules
 
-pub returns-then-is_stopped : goal.returns-then-is_stopped
-returns-then-is_stopped c = cover_found _ _ _ _ _ c.loop-left.invariant.1 c.loop-left.invariant.0 c.loop-left-test.true c.lowest_32-x.ensures c.is_stopped.ensures c.if-is_stopped.true
+pub bounds-arrays-x : goal.bounds-arrays-x
+bounds-arrays-x c = took_lt c.in-Some.ensures.steps
 
-pub loop-left-smaller : goal.loop-left-smaller
-loop-left-smaller c = rw c.rest_of_32-left.ensures (rest_lt _ c.loop-left-test.true)
+pub first_bar-requires : goal.first_bar-requires
+first_bar-requires c = (took_lt c.in-Some.ensures.steps, c.requires)
 
-pub loop-left-preserved : goal.loop-left-preserved
-loop-left-preserved c = (search rules, cover_on _ _ _ _ _ c.loop-left.invariant.1 c.loop-left.invariant.0 c.loop-left-test.true c.lowest_32-x.ensures c.is_stopped.ensures _ c.if-is_stopped.false c.rest_of_32-left.ensures)
+pub returns-in-Some-first_bar : goal.returns-in-Some-first_bar
+returns-in-Some-first_bar c = stopping-found _ _ _ _ _ _ _ c.in-Some.ensures.steps c.loop-x.invariant _ c.in-Some-first_bar.ensures
+
+pub loop-x-preserved : goal.loop-x-preserved
+loop-x-preserved c = stopping_on _ _ _ _ _ _ _ c.in-Some.ensures.steps c.loop-x.invariant (sym c.in_default.is ∙ c.first_bar.ensures)
 
 pub returns : goal.returns
-returns c = cover_end _ _ _ c.loop-left.invariant.1 c.loop-left-test.false
+returns c = stopping_end _ _ _ _ _ c.in-None.ensures.steps.0 c.loop-x.invariant

@@ -4,7 +4,7 @@ use Rattle.rule_arc_passes.proofs.cause.Goals as goal
 
 pub returns-then-is_late : goal.returns-then-is_late
 unfolding cause_of
-returns-then-is_late c = rw (sym c.is_late.ensures ∙ c.if-is_late.true, c.single_32.ensures)
+returns-then-is_late c = rw (sym c.is_late.ensures ∙ c.if-is_late.true, c.single.ensures)
 
 pub returns-else-is_late : goal.returns-else-is_late
 unfolding cause_of

@@ -1,18 +1,30 @@
-use mathlib.Core.Path.{sym, ◌∙◌}
+use borrow.Author.Rules.{rules}
+use mathlib.Core.Path.{◌≡◌, sym, ap, ◌∙◌}
+use Rattle.std.specs.Prelude.{Err}
+use Rattle.refusal.specs.declared.reason.Refusal.TheVariants.{InFile, InCall}
+use Rattle.refusal.specs.Told.{reason_told, told_by}
 use Rattle.file_decoder.proofs.ReadLaws.{read_refused, read_fine}
-use Rattle.rule_entries.specs.Alone.{told, arc_told, arc_left}
+use Rattle.rule_entries.specs.Alone.{loss_values, told, arc_told, arc_left}
 use Rattle.rule_entries.proofs.arc.Goals as goal
 
-pub returns-then-d : goal.returns-then-d
-unfolding told arc_told arc_left
-returns-then-d c = let q = c.decode-d.ensures.refused c.if-d.true in record { result_value = sym (read_refused _ _ _ _ _ q); list_after = sym (read_refused _ _ _ _ _ q) }
+pub returns-in_err-arrays : goal.returns-in_err-arrays
+unfolding arc_told arc_left
+returns-in_err-arrays c =
+    let q : c.from_residual.result ≡ Err (InFile c.in_err-arrays.field-0.0) = search rules in
+    let z = c.decode.ensures.refused _ c.in_err-arrays.was in
+    record { result_value = ap told q ∙ sym (read_refused _ _ _ _ z); list_after = sym (read_refused _ _ _ _ z) }
 
-pub arc_in-requires : goal.arc_in-requires
-arc_in-requires c = let g = c.decode-d.ensures.given c.if-d.false in (g.most, g.range)
+pub returns-in_err-arc_in : goal.returns-in_err-arc_in
+unfolding arc_told arc_left
+returns-in_err-arc_in c =
+    let q : c.from_residual-in_err-arc_in.result ≡ Err (InCall c.in_err-arc_in.field-0.0) = search rules in
+    let g = c.decode.ensures.given _ c.in_ok-arrays.was in
+    let o = c.arc_in.ensures _ g.poses in
+    record { result_value = ap told q ∙ sym (ap (told_by loss_values reason_told) c.in_err-arc_in.was) ∙ o.0 ∙ sym (read_fine _ _ _ g.fine); list_after = o.1 ∙ sym (read_fine _ _ _ g.fine) }
 
 pub returns : goal.returns
 unfolding arc_told arc_left
 returns c =
-    let g = c.decode-d.ensures.given c.if-d.false in
+    let g = c.decode.ensures.given _ c.in_ok-arrays.was in
     let o = c.arc_in.ensures _ g.poses in
-    record { result_value = o.0 ∙ sym (read_fine _ _ _ g.fine); list_after = o.1 ∙ sym (read_fine _ _ _ g.fine) }
+    record { result_value = sym (ap (told_by loss_values reason_told) c.in_ok-arc_in.was) ∙ o.0 ∙ sym (read_fine _ _ _ g.fine); list_after = o.1 ∙ sym (read_fine _ _ _ g.fine) }

@@ -1,18 +1,30 @@
-use mathlib.Core.Path.{sym, ◌∙◌}
+use borrow.Author.Rules.{rules}
+use mathlib.Core.Path.{◌≡◌, sym, ap, ◌∙◌}
+use Rattle.std.specs.Prelude.{Err}
+use Rattle.refusal.specs.declared.reason.Refusal.TheVariants.{InFile, InCall}
+use Rattle.refusal.specs.Told.{reason_told, told_by}
 use Rattle.file_decoder.proofs.ReadLaws.{read_refused, read_fine}
-use Rattle.rule_entries.specs.Alone.{told_check, forward_told, forward_left}
+use Rattle.rule_entries.specs.Alone.{check_values, told_check, forward_told, forward_left}
 use Rattle.rule_entries.proofs.forward_check.Goals as goal
 
-pub returns-then-d : goal.returns-then-d
-unfolding told_check forward_told forward_left
-returns-then-d c = let q = c.decode-d.ensures.refused c.if-d.true in record { result_value = sym (read_refused _ _ _ _ _ q); list_after = sym (read_refused _ _ _ _ _ q) }
+pub returns-in_err-arrays : goal.returns-in_err-arrays
+unfolding forward_told forward_left
+returns-in_err-arrays c =
+    let q : c.from_residual.result ≡ Err (InFile c.in_err-arrays.field-0.0) = search rules in
+    let z = c.decode.ensures.refused _ c.in_err-arrays.was in
+    record { result_value = ap told_check q ∙ sym (read_refused _ _ _ _ z); list_after = sym (read_refused _ _ _ _ z) }
 
-pub forward_in-requires : goal.forward_in-requires
-forward_in-requires c = let g = c.decode-d.ensures.given c.if-d.false in (g.most, g.range)
+pub returns-in_err-forward_in : goal.returns-in_err-forward_in
+unfolding forward_told forward_left
+returns-in_err-forward_in c =
+    let q : c.from_residual-in_err-forward_in.result ≡ Err (InCall c.in_err-forward_in.field-0.0) = search rules in
+    let g = c.decode.ensures.given _ c.in_ok-arrays.was in
+    let o = c.forward_in.ensures _ g.poses in
+    record { result_value = ap told_check q ∙ sym (ap (told_by check_values reason_told) c.in_err-forward_in.was) ∙ o.0 ∙ sym (read_fine _ _ _ g.fine); list_after = o.1 ∙ sym (read_fine _ _ _ g.fine) }
 
 pub returns : goal.returns
 unfolding forward_told forward_left
 returns c =
-    let g = c.decode-d.ensures.given c.if-d.false in
+    let g = c.decode.ensures.given _ c.in_ok-arrays.was in
     let o = c.forward_in.ensures _ g.poses in
-    record { result_value = o.0 ∙ sym (read_fine _ _ _ g.fine); list_after = o.1 ∙ sym (read_fine _ _ _ g.fine) }
+    record { result_value = sym (ap (told_by check_values reason_told) c.in_ok-forward_in.was) ∙ o.0 ∙ sym (read_fine _ _ _ g.fine); list_after = o.1 ∙ sym (read_fine _ _ _ g.fine) }

@@ -1,5 +1,6 @@
+use native.Mathlib.Omega.{arith}
 use Rattle.rule_forward.proofs.RuleLaws.{conflict_is}
 use Rattle.rule_forward.proofs.forward_conflict.Goals as goal
 
 pub returns : goal.returns
-returns c = λ P n universal index rows st h. conflict_is P n universal _ index rows st _ _ h c.join_three.ensures.1 _ _ _ _ c.reason.ensures c.reason-2.ensures c.join_three.ensures.0
+returns c = λ P st h. conflict_is P _ _ st _ _ h _ _ _ _ (omega arith) (omega arith) (omega arith) c.reason.ensures c.reason-2.ensures c.neighbours.ensures

@@ -5,8 +5,8 @@ use Rattle.rule_narrow.proofs.after_pure.Goals as goal
 
 pub returns-then-used : goal.returns-then-used
 returns-then-used c =
-    λ P S. c.purged_values.ensures P _ _ (c.pure_values.ensures P _ S) (sym (get_d_list_in _ _ _ c.requires.0)) (c.contains_32.ensures ∙ sym (S.side _ c.requires.0))
+    λ P S. c.purged_values.ensures P _ _ (c.pure_values.ensures P S) (sym (get_d_list_in _ _ _ c.requires.0)) (c.contains.ensures ∙ sym (S.side _ c.requires.0))
     ∙ leaves-pure _ _ c.requires.0 _ P _ c.if-used.true
 
-pub returns : goal.returns
-returns c = λ P S. leaves_all _ _ c.requires.0 _ _ _ c.if-used.false
+pub returns-else-used : goal.returns-else-used
+returns-else-used c = λ P S. leaves_all _ _ c.requires.0 _ _ _ c.if-used.false

@@ -8,4 +8,4 @@ bounds-w-i-2 c = simp length-set (omega arith)
 
 pub returns : goal.returns
 returns c =
-    λ P S T f g. narrows _ _ c.requires.0 c.requires.1 _ c.requires.2 (λ k. omega (arith, c.slice_known-1.given k)) P S _ _ f g _ _ (c.after_pure.ensures P T) (c.after_interchangeable.ensures P _ T)
+    λ P S T f g. narrows _ _ c.requires.0 c.args.arrays.now.most _ c.requires.1 (λ k. omega (arith, c.slice_known-1.given k)) P S _ _ f g _ _ (c.after_pure.ensures P T) (c.after_interchangeable.ensures P T)

@@ -7,7 +7,7 @@ pub overflow_sub-one : goal.overflow_sub-one
 overflow_sub-one c = rw c.single-one.ensures (pow_pos _)
 
 pub returns-then-some_interchange : goal.returns-then-some_interchange
-returns-then-some_interchange c = representative_none _ _ _ _ _ _ _ c.requires.1 c.single-one.ensures (sym c.some_interchange.ensures ∙ c.if-some_interchange.true)
+returns-then-some_interchange c = representative_none _ _ _ _ _ c.requires.1 c.single-one.ensures (sym c.some_interchange.ensures ∙ c.if-some_interchange.true)
 
-pub returns : goal.returns
-returns c = representative_one _ _ _ _ _ _ _ c.requires.1 c.single-one.ensures (sym c.some_interchange.ensures ∙ c.if-some_interchange.false)
+pub returns-else-some_interchange : goal.returns-else-some_interchange
+returns-else-some_interchange c = representative_one _ _ _ _ _ c.requires.1 c.single-one.ensures (sym c.some_interchange.ensures ∙ c.if-some_interchange.false)

@@ -5,8 +5,8 @@ use Rattle.rule_skip.proofs.box_of.Goals as goal
 pub returns-then-j-i : goal.returns-then-j-i
 returns-then-j-i c = box_none _ _ _ _ c.if-j-i.true
 
-pub returns-then-contains_32 : goal.returns-then-contains_32
-returns-then-contains_32 c = box_later _ _ _ _ c.if-j-i.false (sym c.contains_32.ensures ∙ c.if-contains_32.true)
+pub returns-then-contains : goal.returns-then-contains
+returns-then-contains c = box_later _ _ _ _ c.if-j-i.false (sym c.contains.ensures ∙ c.if-contains.true)
 
 pub returns : goal.returns
-returns c = c.single.ensures ∙ box-leaf _ _ _ _ c.if-j-i.false (sym c.contains_32.ensures ∙ c.if-contains_32.false)
+returns c = c.single.ensures ∙ box-leaf _ _ _ _ c.if-j-i.false (sym c.contains.ensures ∙ c.if-contains.false)

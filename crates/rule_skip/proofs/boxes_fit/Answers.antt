@@ -1,20 +1,16 @@
 use borrow.Author.Rules.{rules}
-use mathlib.Core.Path.{sym, ◌∙◌}
+use borrow.Author.Tests.{tests}
+use mathlib.Core.Path.{refl, ◌∙◌}
 use native.Mathlib.Omega.{arith}
-use Rattle.rule_skip.proofs.BoxLaws.{fit_none, fit_stop, fit_next, fit_end}
+use Rattle.std.proofs.lemmas.Iterator.{YieldsList-from_range}
+use Rattle.std.proofs.lemmas.Iterator.Search.{all_from_yields_List}
+use Rattle.rule_skip.specs.Skip.{goes_above, boxes_fit}
+use Rattle.rule_skip.proofs.BoxLaws.{each_listed}
 use Rattle.rule_skip.proofs.boxes_fit.Goals as goal
 
-pub loop-j-init : goal.loop-j-init
-loop-j-init c = (search rules, fit_none _ _ _ _ _ _)
-
-pub goes_above-requires : goal.goes_above-requires
-goes_above-requires c = let p = c.requires in (search rules, p.1, p.2, p.3 _ c.loop-j-test.true)
-
-pub returns-then-not-goes_above : goal.returns-then-not-goes_above
-returns-then-not-goes_above c = fit_stop _ _ _ _ _ _ _ _ c.loop-j-test.true (sym c.goes_above.ensures ∙ c.if-not-goes_above.true)
-
-pub loop-j-preserved : goal.loop-j-preserved
-loop-j-preserved c = (search rules, fit_next _ _ _ _ _ _ _ c.loop-j.invariant.1 (sym c.goes_above.ensures ∙ c.if-not-goes_above.false))
-
 pub returns : goal.returns
-returns c = fit_end _ _ _ _ _ _ _ _ (omega arith) c.loop-j.invariant.1
+unfolding boxes_fit
+returns c =
+    let a = c.args in
+    let f = goes_above a.arrays.now a.later a.i a.w.now in
+    all_from_yields_List f _ _ _ c.all.ensures.ran (YieldsList-from_range 0 a.arrays.now.n a.arrays.now.n refl (omega arith)) (λ x b q k. search (rules, tests)) ∙ each_listed a.arrays.now.n f

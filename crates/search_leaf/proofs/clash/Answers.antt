@@ -5,4 +5,4 @@ use Rattle.search_leaf.proofs.clash.Goals as goal
 
 pub returns : goal.returns
 unfolding clashes
-returns c = let r : c.row.result ≡ row_in c.args.index.now c.args.rows.now c.args.x c.value_of-a.result c.args.y = c.row.ensures in rw (r, c.value_of-a.ensures.0)
+returns c = let r : c.row.result ≡ row_in c.args.arrays.now c.args.x c.value_of-a.result c.args.y = c.row.ensures in rw (r, c.value_of-a.ensures.0)

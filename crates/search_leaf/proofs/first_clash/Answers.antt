@@ -1,30 +1,21 @@
 use borrow.Author.Rules.{rules}
-use mathlib.Core.Path.{sym, ◌∙◌}
-use Rattle.mask.proofs.Members.{low_lt, rest_lt}
-use Rattle.search_leaf.proofs.ClashLaws.{clash-start, clash-here, clash-next, clash_end}
+use mathlib.Core.Bool.{◌&&◌}
+use mathlib.Core.Path.{ap, ◌∙◌}
+use Rattle.mask.specs.Range.{first}
+use Rattle.mask.specs.Mask.{bit}
+use Rattle.mask.specs.Found.{found}
+use Rattle.mask.proofs.Chains.{serves_members}
+use Rattle.mask.proofs.Found.{find_first}
+use Rattle.search_leaf.specs.Leaf.{clashes, first_clash}
 use Rattle.search_leaf.proofs.first_clash.Goals as goal
 
-pub loop-left-init : goal.loop-left-init
-loop-left-init c = (search rules, clash-start _ _ _ _ _ _ c.later_neighbours-left.ensures)
-
-pub clash-requires : goal.clash-requires
-clash-requires c = let l = low_lt 32 _ c.loop-left.invariant.0 c.loop-left-test.true in search rules
-
-pub returns-then-clash : goal.returns-then-clash
-returns-then-clash c =
-    let a = c.loop-left.invariant in
-    clash-here _ _ _ _ _ _ a.0 c.loop-left-test.true _ c.lowest_32-y.ensures a.1 (sym c.clash.ensures ∙ c.if-clash.true)
-
-pub loop-left-smaller : goal.loop-left-smaller
-loop-left-smaller c = rw c.rest_of_32-left.ensures (rest_lt _ c.loop-left-test.true)
-
-pub loop-left-preserved : goal.loop-left-preserved
-loop-left-preserved c =
-    let a = c.loop-left.invariant in (
-      search rules,
-      clash-next _ _ _ _ _ _ a.0 c.loop-left-test.true _ c.lowest_32-y.ensures a.1
-          (sym c.clash.ensures ∙ c.if-clash.false) _ c.rest_of_32-left.ensures,
-    )
+pub find-requires-clause-callable : goal.find-requires-clause-callable
+find-requires-clause-callable c = serves_members 32 (λ s. s.left) _ c.members_of.ensures (λ x q k. search rules) (λ x l t. search rules)
 
 pub returns : goal.returns
-returns c = clash_end _ _ _ _ _ _ c.loop-left-test.false c.loop-left.invariant.1
+unfolding first_clash
+returns c =
+    let a = c.args in
+    find_first 32 (λ s. s.left) _ _ (clashes a.arrays.now a.w.now a.x) c.members_of.result _ c.find.result _ 32
+    c.members_of.ensures c.later_neighbours.type_inv c.find.ensures.ran (λ x l t b q k. search rules)
+    ∙ ap (λ m. found 32 (first 32 (λ y. bit m y && clashes a.arrays.now a.w.now a.x y))) c.later_neighbours.ensures

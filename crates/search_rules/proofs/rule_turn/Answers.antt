@@ -8,10 +8,10 @@ returns-then-rule-eq2 c =
 pub arc_turn-requires : goal.arc_turn-requires
 arc_turn-requires c =
     let p = c.requires in
-    (p.0, p.3, p.4, p.5, p.6, p.7 c.if-rule-eq2.false)
+    (p.2, p.3, p.4, p.5 c.if-rule-eq2.false)
 
-pub returns : goal.returns
-returns c =
+pub returns-else-rule-eq2 : goal.returns-else-rule-eq2
+returns-else-rule-eq2 c =
     let e = c.arc_turn.ensures in
     let z = c.if-rule-eq2.false in
     record { checks = λ q. absurd (z q); arcs = λ _. e; lasts = e.lasts }

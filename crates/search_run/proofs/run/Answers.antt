@@ -4,10 +4,10 @@ use Rattle.search_run.proofs.RunLaws.{part-start, part-size, part_zero, room_bac
 use Rattle.search_run.proofs.run.Goals as goal
 
 pub overflow_mul-d : goal.overflow_mul-d
-overflow_mul-d c = let p = c.requires in let h = fits_plays _ _ _ p.0.fits in omega (arith, h, p.0.most)
+overflow_mul-d c = let p = c.requires in let h = fits_plays _ _ _ p.0.fits in omega (arith, h, c.args.arrays.now.most)
 
 pub offset_bounds-room-d : goal.offset_bounds-room-d
-offset_bounds-room-d c = let p = c.requires in let h = fits_plays _ _ _ p.0.fits in omega (arith, h, p.0.most)
+offset_bounds-room-d c = let p = c.requires in let h = fits_plays _ _ _ p.0.fits in omega (arith, h, c.args.arrays.now.most)
 
 pub slice_bounds-run_in-count : goal.slice_bounds-run_in-count
 slice_bounds-run_in-count c = let p = c.requires in let h = fits_plays _ _ _ p.0.fits in part-start _ _ _ _ _ h c.room_needed.ensures p.1 c.zero_words.ensures

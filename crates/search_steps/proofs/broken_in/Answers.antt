@@ -4,7 +4,7 @@ use Rattle.search_steps.proofs.LastLaws.{all_played, skipped_told}
 use Rattle.search_steps.proofs.broken_in.Goals as goal
 
 pub returns-then-uses : goal.returns-then-uses
-returns-then-uses c = λ P st p t. skipped_told P _ _ _ _ _ st _ _ p _ (λ k. omega (arith, c.shared_slice_known-1.given k)) t (sym c.uses.ensures ∙ c.if-uses.true) c.if-c-ne0.true
+returns-then-uses c = λ P st p t. skipped_told P _ _ st _ _ p _ (λ k. omega (arith, c.type_inv.w k)) t (sym c.uses.ensures ∙ c.if-uses.true) c.if-below.true
 
 pub returns : goal.returns
-returns c = λ P st p t. c.first_broken.ensures P _ p st (all_played P _ _ _ _ _ st _ _ p _ (λ k. omega (arith, c.shared_slice_known-1.given k)) t)
+returns c = λ P st p t. c.first_broken.ensures P p st (all_played P _ _ st _ _ p _ (λ k. omega (arith, c.type_inv.w k)) t)

@@ -1,8 +1,34 @@
-use mathlib.Core.Path.{ap}
-use Rattle.session.specs.declared.Played.{Played}
-use Rattle.session.specs.Told.{told, play_told, play_left}
+use borrow.Author.Rules.{rules}
+use mathlib.Core.Path.{sym, ap, ◌∙◌}
+use native.Mathlib.Omega.{arith}
+use Rattle.file_reader.specs.Reading.{told as told_read, domains_shown}
+use Rattle.file_reader.proofs.Accepted.{Shows, header_shows, header_refuses}
+use Rattle.session.proofs.FileLaws.{read_most, play_refused, play_read, play_shown}
 use Rattle.session.proofs.play.Goals as goal
+use Rattle.session.proofs.play.Goals.{In_ok-r}
+
+-- What a finished reading shows of the file.
+shows : (c : In_ok-r) → Shows c.args.f.now c.in_ok-r.r.head
+shows c = header_shows _ _ (ap told_read (sym c.in_ok-r.was) ∙ c.read.ensures.0)
+
+pub play_in-requires : goal.play_in-requires
+play_in-requires c = read_most _ _ (shows (goal.at.play_in-requires c).In_ok-r)
+
+pub returns-in_err-r : goal.returns-in_err-r
+returns-in_err-r c =
+    let w = play_shown _ _ _ _ ((search rules) ∙ play_refused _ _ _ (header_refuses _ _ (ap told_read (sym c.in_err-r.was) ∙ c.read.ensures.0)) _) in
+    record { answer_value = w.0; position_value = w.1 }
+
+pub returns-in_err-q : goal.returns-in_err-q
+returns-in_err-q c =
+    let s = shows (goal.at.returns-in_err-q c).In_ok-r in
+    let d = ap domains_shown (sym c.in_ok-r.was) ∙ c.read.ensures.1 in
+    let w = play_shown _ _ _ _ ((search rules) ∙ play_read _ _ _ _ (λ k. omega (arith, c.type_inv.f k)) s d _ _ (sym c.in_err-q.was ∙ c.play_in.ensures)) in
+    record { answer_value = w.0; position_value = w.1 }
 
 pub returns : goal.returns
-unfolding play_told play_left
-returns c = record { answer_value = ap (λ (x : Played). told x.answer) c.play_file.ensures; position_value = ap (λ (x : Played). x.position) c.play_file.ensures }
+returns c =
+    let s = shows (goal.at.returns c).In_ok-r in
+    let d = ap domains_shown (sym c.in_ok-r.was) ∙ c.read.ensures.1 in
+    let w = play_shown _ _ _ _ (play_read _ _ _ _ (λ k. omega (arith, c.type_inv.f k)) s d _ _ (sym c.in_ok-q.was ∙ c.play_in.ensures)) in
+    record { answer_value = w.0; position_value = w.1 }

@@ -1,6 +1,11 @@
-use mathlib.Core.Path.{ap, ◌∙◌}
+use mathlib.Core.Path.{◌≡◌, ap, ◌∙◌}
+use mir.Val.{bool_byte}
+use borrow.Author.Rules.{rules}
+use Rattle.std.specs.Prelude.{is_some}
+use Rattle.rule_entries.specs.Alone.{look_values}
 use Rattle.bench.specs.Number.{as_number}
+use Rattle.bench.proofs.NumberLaws.{first_value, looked}
 use Rattle.bench.proofs.rules_alone.bench_look_ahead.Goals as goal
 
 pub returns : goal.returns
-returns c = c.looked.ensures ∙ ap (as_number 2) c.look_ahead.ensures
+returns c = c.number.ensures ∙ first_value look_values _ (λ x y p. let e : y ≡ bool_byte (is_some x) = search rules in e ∙ looked x) 2 _ _ c.map.ensures.cases ∙ ap (as_number 2) c.look_ahead.ensures

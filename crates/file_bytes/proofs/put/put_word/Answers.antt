@@ -1,13 +1,8 @@
-use lib.ListN.{length-set}
-use native.Mathlib.Numerals.{add-one}
+use mathlib.Core.Path.{ap}
 use native.Mathlib.Omega.{arith}
 use Rattle.buffer.specs.Stored.{stored}
-use Rattle.file_bytes.specs.Bytes.{word_bytes}
+use Rattle.file_bytes.proofs.RecordLaws.{word_is}
 use Rattle.file_bytes.proofs.put.put_word.Goals as goal
 
-pub bounds-buf-at-2 : goal.bounds-buf-at-2
-bounds-buf-at-2 c = simp length-set (omega arith)
-
 pub returns : goal.returns
-unfolding word_bytes stored
-returns c = rw add-one
+returns c = rw (c.put_two.ensures, c.to_le_bytes.ensures) (ap (stored _ _) (word_is c.args.w (omega arith)))

@@ -1,4 +1,3 @@
-use Prim.Native.Nat.{◌≤◌, ◌-◌}
 use mathlib.Core.Path.{◌≡◌}
 use Rattle.mask.specs.Mask.{bit}
 use Rattle.buffer.specs.Stored.{stored}
@@ -6,7 +5,4 @@ use Rattle.file_bytes.specs.Bytes.{variables_bytes, domain_in}
 use Rattle.file_bytes.proofs.records.put_variables.Given as goal
 
 abbrev pub invariant-loop-k : goal.invariant-loop-k
-invariant-loop-k l = (l.k ≤ l.n) × (l.buf ≡ stored l.initial.buf l.at (variables_bytes (bit l.universal) (domain_in l.domains) l.k))
-
-abbrev pub decreases-loop-k : goal.decreases-loop-k
-decreases-loop-k l = l.n - l.k
+invariant-loop-k l = l.buf ≡ stored l.initial.buf l.at (variables_bytes (bit l.universal) (domain_in l.domains) l.k)

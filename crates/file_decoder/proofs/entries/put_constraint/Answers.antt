@@ -1,6 +1,13 @@
-use Rattle.file_decoder.specs.Tables.{near_with, index_with, rows_with}
+use borrow.Author.Rules.{rules}
+use mathlib.Core.Path.{refl}
+use Rattle.file_constraints.specs.Constraints.{constraint_row}
+use Rattle.file_decoder.specs.Tables.{added, linked, numbered, column_of, near_with, index_with, rows_with}
 use Rattle.file_decoder.proofs.entries.put_constraint.Goals as goal
 
 pub returns : goal.returns
-unfolding near_with index_with rows_with
-returns c = record { near_after = cc; index_after = cc; rows_after = cc }
+unfolding added linked numbered near_with index_with rows_with
+returns c =
+    let a = c.args in
+    let on = c.put_block.ensures (constraint_row a.f.now a.q a.t) (λ a x l h. search rules) in
+    let back = c.put_block-2.ensures (column_of a.f.now a.q a.t) (λ b x l h. search rules) in
+    record { near_after = cc; index_after = cc; rows_after = cc; others = record { own = refl; n = refl; universal = refl; domains = refl } }

@@ -1,5 +1,4 @@
 use Prim.Native.Nat.{ℕ, ◌+◌, ◌^◌}
-use borrow.Author.Rules.{rules}
 use mathlib.Core.Path.{◌≡◌, refl}
 use mathlib.Core.Bool.{Bool, cond}
 use mathlib.Core.List.{List}
@@ -10,6 +9,7 @@ use Rattle.file_constraints.specs.Constraints.{constraint_row}
 use Rattle.mask.specs.Mask.{bit, mask_of}
 use Rattle.file_decoder.specs.Tables.{column_of}
 use Rattle.file_decoder.proofs.rows.column.Goals as goal
+use Rattle.file_decoder.proofs.rows.column.Goals.{then-contains, else-contains}
 
 -- One turn: row a says whether a is in the column.
 turn : (f : List ℕ) (q t b a out row next : ℕ) (s : Bool) → out ≡ mask_of a (λ x. bit (constraint_row f q t x) b) →
@@ -19,13 +19,15 @@ turn f q t b a out row next s e r h n = rw (add-one, n, h, r, e)
 
 pub loop-a-init : goal.loop-a-init
 unfolding mask_of
-loop-a-init c = (search rules, refl)
+loop-a-init c = refl
 
 pub loop-a-preserved : goal.loop-a-preserved
-loop-a-preserved c = (
-  search rules,
-  turn _ _ _ _ _ _ _ _ _ c.loop-a.invariant.1 c.constraint_row.ensures c.contains.ensures c.with_value-out.ensures,
-)
+loop-a-preserved c =
+    turn _ _ _ _ _ _ _ _ _ c.loop-a.invariant c.constraint_row.ensures c.contains.ensures
+    (elim c.if-contains.branch [
+      | then-contains w ↦ rw (w.if-contains.true, w.out-is, w.single-out.ensures)
+      | else-contains w ↦ rw (w.if-contains.false, w.out-is)
+    ])
 
 pub returns : goal.returns
 unfolding column_of

@@ -1,11 +1,7 @@
-use Prim.Native.Nat.{◌-◌, ◌≤◌}
 use mathlib.Core.Path.{◌≡◌}
 use Rattle.file_constraints.specs.Constraints.{constraint_row}
 use Rattle.mask.specs.Mask.{bit, mask_of}
 use Rattle.file_decoder.proofs.rows.column.Given as goal
 
 abbrev pub invariant-loop-a : goal.invariant-loop-a
-invariant-loop-a l = (l.a ≤ 16) × (l.out ≡ mask_of l.a (λ x. bit (constraint_row l.f l.q l.t x) l.b))
-
-abbrev pub decreases-loop-a : goal.decreases-loop-a
-decreases-loop-a l = 16 - l.a
+invariant-loop-a l = l.out ≡ mask_of l.a (λ x. bit (constraint_row l.f l.q l.t x) l.b)

@@ -1,20 +1,17 @@
-use borrow.Author.Tests.{le-leb, lt-leb}
-use Rattle.refusal.specs.Chain.{◌then◌, need}
+use mathlib.Core.Path.{◌∙◌}
+use borrow.Author.Rules.{rules}
+use Rattle.refusal.proofs.Chain.{stops, goes}
 use Rattle.file_layout.specs.Layout.{opened}
 use Rattle.file_layout.proofs.bytes.opened_at.Goals as goal
 
-pub returns-then-f-p : goal.returns-then-f-p
-unfolding opened ◌then◌ need
-returns-then-f-p c = simp (lt-leb _ _ c.if-f-p.true)
+pub returns-in_err-needed : goal.returns-in_err-needed
+unfolding opened
+returns-in_err-needed c = (search rules) ∙ stops _ _ (cc) c.in_err-needed.was
 
-pub returns-then-not-right : goal.returns-then-not-right
-unfolding opened ◌then◌ need
-returns-then-not-right c = simp (le-leb _ _ c.if-f-p.false, c.if-not-right.true)
-
-pub returns-then-f-p-2 : goal.returns-then-f-p-2
-unfolding opened ◌then◌ need
-returns-then-f-p-2 c = simp (le-leb _ _ c.if-f-p.false, c.if-not-right.false, lt-leb _ _ c.if-f-p-2.true)
+pub returns-in_err-needed-2 : goal.returns-in_err-needed-2
+unfolding opened
+returns-in_err-needed-2 c = goes _ _ (cc) c.in_ok-needed.was ((search rules) ∙ stops _ _ (cc) c.in_err-needed-2.was)
 
 pub returns : goal.returns
-unfolding opened ◌then◌ need
-returns c = simp (le-leb _ _ c.if-f-p.false, c.if-not-right.false, le-leb _ _ c.if-f-p-2.false)
+unfolding opened
+returns c = goes _ _ (cc) c.in_ok-needed.was (goes _ _ (cc) c.in_ok-needed-2.was (cc))

@@ -1,17 +1,14 @@
-use mathlib.Core.Path.{sym, ◌∙◌}
-use Rattle.refusal.proofs.Chain.{stop}
-use Rattle.file_records.proofs.RecordLaws.{verdict_is}
+use mathlib.Core.Path.{ap₂, ◌∙◌}
+use borrow.Author.Rules.{rules}
+use Rattle.refusal.specs.Chain.{◌then◌}
+use Rattle.refusal.proofs.Chain.{stops, goes, and_is}
 use Rattle.file_records.specs.Records.{verdict_of}
 use Rattle.file_reader.proofs.whole.check_file.Goals as goal
 
-pub rest_test-requires : goal.rest_test-requires
-rest_test-requires c = sym c.qp_test-a.ensures ∙ c.in-Fine.is
-
-pub returns-in-Refused : goal.returns-in-Refused
+pub returns-in_err-qp_test : goal.returns-in_err-qp_test
 unfolding verdict_of
-returns-in-Refused c = sym (stop _ _ _ _ (cc))
+returns-in_err-qp_test c = (search rules) ∙ stops _ _ (cc) c.in_err-qp_test.was
 
-pub returns-in-Fine : goal.returns-in-Fine
-returns-in-Fine c =
-    verdict_is _ _ _ _ _ c.qp_test-a.ensures c.in-Fine.is c.rs_test-r.ensures c.rest_test.ensures
-    c.first.ensures
+pub returns : goal.returns
+unfolding verdict_of
+returns c = goes _ _ (cc) c.in_ok-qp_test.was (c.and.ensures ∙ and_is _ _ ∙ ap₂ ◌then◌ c.rs_test-rules.ensures c.rest_test.ensures)

@@ -1,17 +1,18 @@
 use mathlib.Core.Path.{sym, ◌∙◌}
 use native.Mathlib.Omega.{arith}
-use Rattle.refusal.proofs.Chain.{stop, go}
+use borrow.Author.Rules.{rules}
+use Rattle.refusal.proofs.Chain.{stops, goes}
 use Rattle.file_layout.proofs.LayoutLaws.{opened_out}
 use Rattle.file_records.specs.Records.{qp_test}
 use Rattle.file_records.proofs.head.qp_test.Goals as goal
 
 pub word_at-requires : goal.word_at-requires
-word_at-requires c = omega (arith, opened_out _ _ _ _ (sym c.opened_at-o.ensures ∙ c.in-Fine.is))
+word_at-requires c = omega (arith, opened_out _ _ _ _ (sym c.opened_at.ensures ∙ c.in_ok-opened_at.was))
 
-pub returns-in-Refused : goal.returns-in-Refused
+pub returns-in_err-opened_at : goal.returns-in_err-opened_at
 unfolding qp_test
-returns-in-Refused c = sym (stop _ _ _ _ (cc))
+returns-in_err-opened_at c = (search rules) ∙ stops _ _ (cc) c.in_err-opened_at.was
 
-pub returns-in-Fine : goal.returns-in-Fine
+pub returns : goal.returns
 unfolding qp_test
-returns-in-Fine c = sym (go _ _ (cc) ∙ cc)
+returns c = goes _ _ (cc) c.in_ok-opened_at.was (cc)

@@ -1,19 +1,19 @@
-use mathlib.Core.Bool.{Bool}
-use mathlib.Core.Path.{sym, ap, ◌∙◌}
+use mathlib.Core.Path.{sym, ap, ap₂, ◌∙◌}
+use borrow.Author.Rules.{rules}
 use Rattle.refusal.specs.Chain.{need}
-use Rattle.refusal.proofs.Chain.{stop, go, so, not_so}
+use Rattle.refusal.proofs.Chain.{stops, goes, so, not_so}
 use Rattle.rule_set.specs.RuleSet.{is_rule_set}
 use Rattle.file_records.specs.Records.{rs_test}
 use Rattle.file_records.proofs.head.rs_test.Goals as goal
 
-pub returns-in-Refused : goal.returns-in-Refused
+pub returns-then-not-is_marked : goal.returns-then-not-is_marked
 unfolding rs_test
-returns-in-Refused c = sym (so _ _ (cc) ∙ stop _ _ _ _ (cc))
+returns-then-not-is_marked c = sym (not_so _ _ (cc))
 
-pub returns-in-Fine : goal.returns-in-Fine
+pub returns-in_err-opened_at : goal.returns-in_err-opened_at
 unfolding rs_test
-returns-in-Fine c = sym (so _ _ (cc) ∙ go _ _ (cc) ∙ ap (λ (b : Bool). need b 8 5) (sym (c.is_rule_set.ensures ∙ ap is_rule_set c.byte_at.ensures.0)) ∙ sym c.needed.ensures)
+returns-in_err-opened_at c = (search rules) ∙ stops _ _ (cc) c.in_err-opened_at.was ∙ sym (so _ _ (cc))
 
-pub returns-else-is_marked : goal.returns-else-is_marked
+pub returns : goal.returns
 unfolding rs_test
-returns-else-is_marked c = sym (not_so _ _ (cc))
+returns c = goes _ _ (cc) c.in_ok-opened_at.was (c.needed.ensures ∙ ap₂ need (c.is_rule_set.ensures ∙ ap is_rule_set c.byte_at.ensures.0) c.at.ensures) ∙ sym (so _ _ (cc))

@@ -1,7 +1,39 @@
-use Rattle.file_bytes.specs.Bytes.{length_of, handed_with}
-use Rattle.file_writer.proofs.Writable.{rest_is}
+use mathlib.Core.Path.{◌∙◌}
+use borrow.Author.Rules.{rules}
+use Rattle.refusal.proofs.Chain.{stops, goes}
+use Rattle.file_bytes.specs.Bytes.{length_of}
+use Rattle.file_writer.specs.Tests.{rest_test}
 use Rattle.file_writer.proofs.tests.rest_test.Goals as goal
 
+pub returns-in_err-needed : goal.returns-in_err-needed
+unfolding rest_test
+returns-in_err-needed c = (search rules) ∙ stops _ _ (cc) c.in_err-needed.was
+
+pub returns-in_err-needed-2 : goal.returns-in_err-needed-2
+unfolding rest_test
+returns-in_err-needed-2 c =
+    goes _ _ (cc) c.in_ok-needed.was
+    ((search rules) ∙ stops _ _ (cc) c.in_err-needed-2.was)
+
+pub returns-in_err-needed-3 : goal.returns-in_err-needed-3
+unfolding rest_test
+returns-in_err-needed-3 c =
+    goes _ _ (cc) c.in_ok-needed.was
+    (goes _ _ (cc) c.in_ok-needed-2.was
+    ((search rules) ∙ stops _ _ (rw (← c.domains_fit.ensures) c.needed-3.ensures) c.in_err-needed-3.was))
+
+pub returns-in_err-constraints_test : goal.returns-in_err-constraints_test
+unfolding rest_test
+returns-in_err-constraints_test c =
+    goes _ _ (cc) c.in_ok-needed.was
+    (goes _ _ (cc) c.in_ok-needed-2.was
+    (goes _ _ (rw (← c.domains_fit.ensures) c.needed-3.ensures) c.in_ok-needed-3.was
+    ((search rules) ∙ stops _ _ c.constraints_test.ensures c.in_err-constraints_test.was)))
+
 pub returns : goal.returns
-unfolding length_of
-returns c = let a = c.args in rest_is (handed_with a.x a.domains.now a.constraints.now) a.room _ _ _ _ _ _ _ _ _ _ _ _ c.rules_fit.ensures c.needed-r.ensures c.universal_fits.ensures c.needed-u.ensures c.domains_test-d.ensures c.constraints_test-c.ensures c.length_of.ensures c.needed-s.ensures c.first.ensures c.first-2.ensures c.first-3.ensures c.first-4.ensures
+unfolding rest_test length_of
+returns c =
+    goes _ _ (cc) c.in_ok-needed.was
+    (goes _ _ (cc) c.in_ok-needed-2.was
+    (goes _ _ (rw (← c.domains_fit.ensures) c.needed-3.ensures) c.in_ok-needed-3.was
+    (goes _ _ c.constraints_test.ensures c.in_ok-constraints_test.was (rw (← c.length.ensures) c.needed-4.ensures))))

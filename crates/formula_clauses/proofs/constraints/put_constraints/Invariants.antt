@@ -1,11 +1,7 @@
-use Prim.Native.Nat.{◌-◌, ◌≤◌}
 use Rattle.buffer.specs.Stored.{joined}
 use Rattle.formula_clauses.specs.Lines.{Lines}
 use Rattle.formula_clauses.specs.Clauses.{later_of}
 use Rattle.formula_clauses.proofs.constraints.put_constraints.Given as goal
 
 abbrev pub invariant-loop-i : goal.invariant-loop-i
-invariant-loop-i l = (l.i ≤ l.n) × Lines l.initial.out l.initial.r (joined (later_of l.near l.index l.rows l.v) l.i) l.r l.out
-
-abbrev pub decreases-loop-i : goal.decreases-loop-i
-decreases-loop-i l = l.n - l.i
+invariant-loop-i l = Lines l.initial.out l.initial.r (joined (later_of l.arrays) l.i) l.r l.out

@@ -3,19 +3,16 @@ use mathlib.Core.Path.{◌≡◌}
 use native.Mathlib.Omega.{arith}
 use Rattle.buffer.specs.Stored.{joined}
 use Rattle.formula_clauses.specs.Clauses.{later_of}
-use Rattle.formula_clauses.proofs.LineLaws.{lines_none, lines_kept, lines_joined}
+use Rattle.formula_clauses.proofs.LineLaws.{lines_none, lines_joined}
 use Rattle.formula_clauses.proofs.constraints.put_later.Goals as goal
 
 pub loop-j-init : goal.loop-j-init
 unfolding joined
-loop-j-init c = (search rules, lines_none _ _ (search rules) (search rules) (search rules))
+loop-j-init c = lines_none _ _ (search rules) (search rules) (search rules)
 
 pub loop-j-preserved : goal.loop-j-preserved
-loop-j-preserved c = (search rules, lines_joined _ _ c.loop-j.invariant.1 c.put_pair-r.ensures)
-
-pub shape_of-out : goal.shape_of-out
-shape_of-out c = lines_kept c.loop-j.invariant.1
+loop-j-preserved c = lines_joined _ _ c.loop-j.invariant c.put_pair-r.ensures
 
 pub returns : goal.returns
 unfolding later_of
-returns c = let e : c.loop-j.j ≡ c.args.v.n = omega arith in rw e at c.loop-j.invariant.1
+returns c = let e : c.loop-j.j ≡ c.args.arrays.now.n = omega arith in rw e at c.loop-j.invariant

@@ -7,7 +7,7 @@ use Rattle.formula_clauses.proofs.constraints.put_pair.Goals as goal
 
 pub put_constraint-requires : goal.put_constraint-requires
 put_constraint-requires c =
-    (search rules, bounded_of _ _ _ c.requires.0 c.coding_of-x.ensures, search rules, bounded_of _ _ _ c.requires.1 c.coding_of-y.ensures, c.requires.2)
+    (search rules, bounded_of _ _ _ c.requires.0 c.coding_of-x.ensures, search rules, bounded_of _ _ _ c.requires.1 c.coding_of-y.ensures)
 
 pub returns-then-is_pair : goal.returns-then-is_pair
 unfolding pair_of

@@ -3,19 +3,16 @@ use mathlib.Core.Path.{◌≡◌}
 use native.Mathlib.Omega.{arith}
 use Rattle.buffer.specs.Stored.{joined}
 use Rattle.formula_clauses.specs.Clauses.{existentials_of}
-use Rattle.formula_clauses.proofs.LineLaws.{lines_none, lines_kept, lines_joined}
+use Rattle.formula_clauses.proofs.LineLaws.{lines_none, lines_joined}
 use Rattle.formula_clauses.proofs.existentials.put_existentials.Goals as goal
 
 pub loop-i-init : goal.loop-i-init
 unfolding joined
-loop-i-init c = (search rules, lines_none _ _ (search rules) (search rules) (search rules))
+loop-i-init c = lines_none _ _ (search rules) (search rules) (search rules)
 
 pub loop-i-preserved : goal.loop-i-preserved
-loop-i-preserved c = (search rules, lines_joined _ _ c.loop-i.invariant.1 c.put_existential-r.ensures)
-
-pub shape_of-out : goal.shape_of-out
-shape_of-out c = lines_kept c.loop-i.invariant.1
+loop-i-preserved c = lines_joined _ _ c.loop-i.invariant c.put_existential-r.ensures
 
 pub returns : goal.returns
 unfolding existentials_of
-returns c = let e : c.loop-i.i ≡ c.args.v.n = omega arith in rw e at c.loop-i.invariant.1
+returns c = let e : c.loop-i.i ≡ c.args.arrays.now.n = omega arith in rw e at c.loop-i.invariant

@@ -1,9 +1,5 @@
-use Prim.Native.Nat.{◌-◌, ◌≤◌}
 use Rattle.formula_index.proofs.ChainLaws.{Chained}
 use Rattle.formula_index.proofs.chains.read_clauses.Given as goal
 
 abbrev pub invariant-loop-k : goal.invariant-loop-k
-invariant-loop-k l = (l.k ≤ l.c) × Chained l.t l.most l.p l.initial.start l.initial.next l.initial.head l.start l.next l.head l.q l.k
-
-abbrev pub decreases-loop-k : goal.decreases-loop-k
-decreases-loop-k l = l.c - l.k
+invariant-loop-k l = Chained l.t l.most l.p l.initial.start l.initial.next l.initial.head l.start l.next l.head l.q l.k

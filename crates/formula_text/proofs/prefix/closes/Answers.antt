@@ -3,4 +3,4 @@ use Rattle.formula_text.proofs.prefix.closes.Goals as goal
 
 pub returns : goal.returns
 unfolding closes_in
-returns c = c.contains_32.ensures
+returns c = c.contains.ensures

@@ -1,11 +1,7 @@
-use Prim.Native.Nat.{◌-◌, ◌≤◌}
 use Rattle.buffer.specs.Stored.{joined}
 use Rattle.buffer.specs.Put.{Put}
 use Rattle.formula_text.specs.Body.{block_text}
 use Rattle.formula_text.proofs.prefix.put_blocks.Given as goal
 
 abbrev pub invariant-loop-i : goal.invariant-loop-i
-invariant-loop-i l = (l.i ≤ l.n) × Put l.initial.out l.at (joined (block_text l.v) l.i) l.e l.out
-
-abbrev pub decreases-loop-i : goal.decreases-loop-i
-decreases-loop-i l = l.n - l.i
+invariant-loop-i l = Put l.initial.out l.at (joined (block_text l.arrays) l.i) l.e l.out

@@ -1,5 +1,4 @@
-use borrow.Author.Rules.{rules}
-use mathlib.Core.Path.{◌≡◌, refl}
+use mathlib.Core.Path.{refl}
 use native.Mathlib.Omega.{arith}
 use Rattle.formula_words.specs.Coding.{base_in}
 use Rattle.formula_words.proofs.CodingLaws.{base_more}
@@ -7,11 +6,7 @@ use Rattle.formula_words.proofs.coded.base_of.Goals as goal
 
 pub loop-k-init : goal.loop-k-init
 unfolding base_in
-loop-k-init c = (search rules, search rules, refl)
+loop-k-init c = (omega arith, refl)
 
 pub loop-k-preserved : goal.loop-k-preserved
-loop-k-preserved c =
-    (search rules, omega arith, base_more _ _ _ _ _ _ _ _ c.loop-k.invariant.2 c.contains_32.ensures c.domain_at.ensures c.size_of.ensures.0 c.width_of-base.ensures.0)
-
-pub returns : goal.returns
-returns c = let e : c.loop-k.k ≡ c.args.i = omega arith in (rw e at c.loop-k.invariant.2, omega arith)
+loop-k-preserved c = (omega arith, base_more _ _ _ _ _ _ c.loop-k.invariant.1 c.contains.ensures c.size_of.ensures.0 c.width_of-base.ensures.0)

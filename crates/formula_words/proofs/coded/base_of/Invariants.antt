@@ -1,10 +1,7 @@
-use Prim.Native.Nat.{◌-◌, ◌*◌, ◌≤◌}
+use Prim.Native.Nat.{◌*◌, ◌≤◌}
 use mathlib.Core.Path.{◌≡◌}
 use Rattle.formula_words.specs.Coding.{base_in}
 use Rattle.formula_words.proofs.coded.base_of.Given as goal
 
 abbrev pub invariant-loop-k : goal.invariant-loop-k
-invariant-loop-k l = (l.k ≤ l.i) × (l.base ≤ 16 * l.k) × (l.base ≡ base_in l.universal l.domains l.k)
-
-abbrev pub decreases-loop-k : goal.decreases-loop-k
-decreases-loop-k l = l.i - l.k
+invariant-loop-k l = (l.base ≤ 16 * l.k) × (l.base ≡ base_in l.arrays l.k)

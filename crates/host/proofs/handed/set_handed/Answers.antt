@@ -1,16 +1,27 @@
-use mathlib.Core.Path.{refl}
-use borrow.Author.Tests.{eq-eqb, ne_eqb, lt-ltb, le-ltb}
+use mathlib.Core.Path.{◌≡◌, refl, ◌∙◌}
+use mathlib.Core.Bool.{Bool, true, false, not, cond}
+use Prim.Native.Nat.{ℕ, ◌<◌}
+use native.Mathlib.Omega.{arith}
+use lib.Dec.{eqb, ltb}
+use borrow.Author.Tests.{lt-ltb, le-ltb}
+use Rattle.std.specs.Prelude.{Result, Ok, Err, OkIff, Option, None, Some}
+use Rattle.std.specs.Bool.{then_some}
+use Rattle.std.specs.Result.{result_unwrap_or}
 use Rattle.host.specs.Handed.{byte_handed}
 use Rattle.host.proofs.handed.set_handed.Goals as goal
 
-pub returns-then-given-eq0 : goal.returns-then-given-eq0
-unfolding byte_handed
-returns-then-given-eq0 c = rw (eq-eqb _ _ c.if-given-eq0.true) refl
+-- A number that no byte holds gives 255.
+byte : {E : Type 0} (r : Result ℕ E) (rules : ℕ) → OkIff r (rules < 256) rules → result_unwrap_or r 255 ≡ cond (ltb rules 256) rules 255
+byte (Ok k) rules o = rw (lt-ltb rules 256 o.0) o.1
+byte (Err e) rules o = rw (le-ltb rules 256 (omega (arith, o))) refl
 
-pub returns-then-rules-lt256 : goal.returns-then-rules-lt256
+handed_is : {E : Type 0} (given rules : ℕ) (r : Result ℕ E) → OkIff r (rules < 256) rules → then_some (not (eqb given 0)) (result_unwrap_or r 255) ≡ byte_handed given rules
 unfolding byte_handed
-returns-then-rules-lt256 c = rw (ne_eqb _ _ c.if-given-eq0.false, lt-ltb _ _ c.if-rules-lt256.true) refl
+handed_is given rules r o = rw (byte r rules o) (by (eqb given 0))
+  where
+    by : (b : Bool) → then_some (not b) (cond (ltb rules 256) rules 255) ≡ cond b None (Some (cond (ltb rules 256) rules 255))
+    by true = refl
+    by false = refl
 
-pub returns-else-rules-lt256 : goal.returns-else-rules-lt256
-unfolding byte_handed
-returns-else-rules-lt256 c = rw (ne_eqb _ _ c.if-given-eq0.false, le-ltb _ _ c.if-rules-lt256.false) refl
+pub returns : goal.returns
+returns c = rw (c.then_some.ensures, c.unwrap_or.ensures) (handed_is _ _ _ c.try_from.ensures)

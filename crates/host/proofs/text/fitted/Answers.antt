@@ -1,23 +1,30 @@
-use lib.Seq.{length-take-le}
-use mathlib.Core.Path.{sym}
+use mathlib.Core.Path.{◌≡◌, refl, sym, ap, ◌∙◌}
+use mathlib.Core.List.{[], ◌∷◌}
+use Prim.Native.Nat.{ℕ}
 use native.Mathlib.Omega.{arith}
+use lib.ListN.{length}
+use borrow.Author.Rules.{rules}
+use Rattle.std.specs.Prelude.{Err}
+use Rattle.refusal.proofs.RepliedLaws.{reply_refused, reply_told, list_refused, list_left}
 use Rattle.file_writer.specs.Writing.{told}
-use Rattle.host.proofs.TextLaws.{short, long}
+use Rattle.host.specs.Text.{fit_test, fit_told, fit_left}
 use Rattle.host.proofs.text.fitted.Goals as goal
 
-pub returns-then-buf-k : goal.returns-then-buf-k
-unfolding told
-returns-then-buf-k c =
-    let a = c.args in
-    let h = short a.k a.line.now a.buf.now (omega arith) c.if-buf-k.true in
-    record { result_value = h.0; buf_after = h.1 }
-
-pub slice_bounds-put-end : goal.slice_bounds-put-end
-slice_bounds-put-end c = sym (length-take-le _ _ (omega arith))
+pub returns-in_err-needed : goal.returns-in_err-needed
+unfolding fit_told fit_left fit_test
+returns-in_err-needed c =
+    let e : c.from_residual.result ≡ Err c.in_err-needed.field-0.0 = search rules in
+    let t = fit_test c.args.text.now (length c.args.buf.now) in
+    record {
+      result_value = ap told e ∙ reply_refused t _ c.needed.ensures c.in_err-needed.was;
+      buf_after = list_refused t _ _ c.needed.ensures c.in_err-needed.was;
+    }
 
 pub returns : goal.returns
-unfolding told
+unfolding fit_told fit_left fit_test
 returns c =
-    let a = c.args in
-    let h = long a.k a.line.now _ _ _ c.put.ensures (omega arith) (omega arith) in
-    record { result_value = h.0; buf_after = h.1 }
+    let t = fit_test c.args.text.now (length c.args.buf.now) in
+    record {
+      result_value = reply_told t _ c.needed.ensures c.in_ok-needed.was (ap (λ (n : ℕ). n ∷ []) (omega (arith, c.put.ensures.ends)));
+      buf_after = list_left t _ _ c.needed.ensures c.in_ok-needed.was c.put.ensures.bytes;
+    }

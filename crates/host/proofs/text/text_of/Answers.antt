@@ -8,5 +8,5 @@ unfolding text_told text_left
 returns c =
     let r = c.report_file-k.ensures in
     let e = front _ _ _ _ r.value r.out_after in
-    let s = c.line_fitted.ensures in
+    let s = c.fitted.ensures in
     record { result_value = s.result_value ∙ rw e refl; buf_after = s.buf_after ∙ rw e refl }

@@ -1,8 +1,10 @@
-use mathlib.Core.Path.{◌≡◌, sym}
+use mathlib.Core.Path.{◌≡◌, refl, ap, ◌∙◌}
 use native.Mathlib.Omega.{arith}
+use lib.Bits.{bit_or}
 use lib.ListN.{length}
+use mathlib.Core.Bool.{true, false}
 use borrow.Author.Rules.{rules}
-use Rattle.mask.proofs.Members.{rest_lt}
+use Rattle.mask.proofs.Chains.{took_lt}
 use Rattle.marking.proofs.MarkLaws.{marking_start, marking_at, marking_next, marking_room, marking_end}
 use Rattle.marking.proofs.values.winning_values.Goals as goal
 use Rattle.marking.proofs.values.winning_values.Goals.{Start}
@@ -11,35 +13,34 @@ use Rattle.marking.proofs.values.winning_values.Goals.{Start}
 long : (c : Start) → length c.args.s.position.values ≡ 32
 long c = search rules
 
-pub next_domain-m-requires : goal.next_domain-m-requires
-next_domain-m-requires c = let p = c.requires in omega (arith, p.next, p.start.most)
+pub loop-a-init : goal.loop-a-init
+loop-a-init c = marking_start _ _ _ _ _ _ refl (ap (λ s. s.left) c.into_iter-a-iterator.ensures.into_iter_gives ∙ c.members_of-a-items.ensures)
 
-pub loop-left-init : goal.loop-left-init
-loop-left-init c = marking_start _ _ _ _ _ _ _ _ _ (search rules)
-
-pub wins_with-w-requires : goal.wins_with-w-requires
-wins_with-w-requires c =
+pub wins_with-requires : goal.wins_with-requires
+wins_with-requires c =
     let p = c.requires in
-    let l = c.loop-left.invariant in
-    let a = marking_at _ _ _ _ _ _ _ _ _ l c.loop-left-test.true _ c.lowest-a.ensures in
-    (record { start = p.start; next = p.next; room = omega (arith, l.size, p.room) }, a.0, rw (sym c.next_domain-m.ensures) a.1)
+    let l = c.loop-a.invariant in
+    let a = marking_at _ _ _ _ _ _ l c.in-Some.ensures.steps in
+    (record { start = p.start; next = p.next; room = omega (arith, l.size, p.room) }, a.0, a.1)
 
-pub with_value-won-requires : goal.with_value-won-requires
-with_value-won-requires c = (marking_at _ _ _ _ _ _ _ _ _ c.loop-left.invariant c.loop-left-test.true _ c.lowest-a.ensures).0
+pub single-won-requires : goal.single-won-requires
+single-won-requires c = took_lt c.in-Some.ensures.steps
 
-pub loop-left-smaller : goal.loop-left-smaller
-loop-left-smaller c = omega (arith, c.rest_of-left.ensures, rest_lt _ c.loop-left-test.true)
+pub loop-a-preserved-then-wins_with : goal.loop-a-preserved-then-wins_with
+loop-a-preserved-then-wins_with c =
+    let w = c.wins_with.ensures in
+    marking_next _ _ _ _ _ _ c.loop-a.invariant c.in-Some.ensures.steps true c.if-wins_with.true w.0 w.1 c.requires.room (ap (bit_or c.loop-a.won) c.single-won.ensures)
 
-pub loop-left-preserved : goal.loop-left-preserved
-loop-left-preserved c =
-    let w = c.wins_with-w.ensures in
-    marking_next _ _ _ _ _ _ _ _ _ c.loop-left.invariant c.loop-left-test.true _ c.lowest-a.ensures _ w.0 _ w.1 c.requires.room _ _ c.with_value-won.ensures c.rest_of-left.ensures
+pub loop-a-preserved : goal.loop-a-preserved
+loop-a-preserved c =
+    let w = c.wins_with.ensures in
+    marking_next _ _ _ _ _ _ c.loop-a.invariant c.in-Some.ensures.steps false c.if-wins_with.false w.0 w.1 c.requires.room refl
 
 pub returns : goal.returns
 returns c =
     let p = c.requires in
-    let e = c.next_domain-m.ensures in
-    let l = c.loop-left.invariant in (
-      marking_end _ _ _ _ _ _ _ _ _ l c.loop-left-test.false e p.start.most p.start.fits (long (goal.at.returns c).Start) p.next,
-      marking_room _ _ _ _ _ _ _ _ _ l c.loop-left-test.false e p.start.posed p.next,
+    let l = c.loop-a.invariant in
+    let z = c.in-None.ensures.steps.0 in (
+      marking_end _ _ _ _ _ _ l z refl p.start.fits (long (goal.at.returns c).Start) p.next,
+      marking_room _ _ _ _ _ _ l z refl p.start.posed p.next,
     )

@@ -20,10 +20,8 @@ run-requires c =
     let p = c.requires.0 in
     let o = p.start.posed.poses in (
       record {
-        most = p.start.most;
-        fits = subst (λ (q : Position). T (fits_in q c.args.s.variables.n c.args.s.variables.domains)) (sym c.pushed.ensures)
-            (pushed-fits _ _ _ p.start.fits p.start.most (long (goal.at.run-requires c).Start) p.next _ p.start.posed.problem o.states.size o.domain c.requires.2);
-        range = p.start.range;
+        fits = subst (λ (q : Position). T (fits_in q c.args.arrays.now.n c.args.arrays.now.domains)) (sym c.pushed.ensures)
+            (pushed-fits _ _ _ p.start.fits c.args.arrays.now.most (long (goal.at.run-requires c).Start) p.next _ p.start.posed.problem o.states.size o.domain c.requires.2);
         posed = p.start.posed;
       },
       p.room,
@@ -34,6 +32,6 @@ returns c =
     let p = c.requires.0 in
     let r = c.run.ensures in (
       λ P o. (r.0 P o).won
-          ∙ ap (λ (l : List ℕ). is_solved (search_from P c.args.s.set.bits l)) (ap plays_of c.pushed.ensures ∙ plays_pushed _ _ _ p.start.fits p.start.most (long (goal.at.returns c).Start) p.next _),
+          ∙ ap (λ (l : List ℕ). is_solved (search_from P c.args.s.set.bits l)) (ap plays_of c.pushed.ensures ∙ plays_pushed _ _ _ p.start.fits c.args.arrays.now.most (long (goal.at.returns c).Start) p.next _),
       r.1,
     )

@@ -1,7 +1,7 @@
 use Rattle.buffer.proofs.PutLaws.{put_more, put_last}
-use Rattle.report_text.specs.Text.{next_line}
+use Rattle.report_text.specs.Text.{side_of, next_line}
 use Rattle.report_text.proofs.lines.put_next.Goals as goal
 
 pub returns : goal.returns
-unfolding next_line
-returns c = put_more _ c.put-a.ensures (put_more _ c.put_number-b.ensures (put_more _ c.put-c.ensures (put_more _ c.put_side-d.ensures (put_last c.put.ensures))))
+unfolding next_line side_of
+returns c = put_more _ c.put-a.ensures (put_more _ c.put_number-b.ensures (put_more _ c.put-c.ensures (put_more _ c.put_word-d.ensures (put_last c.put.ensures))))

@@ -1,22 +1,45 @@
-use mathlib.Core.Bool.{true, false}
-use mathlib.Core.Path.{sym, ◌∙◌}
-use Rattle.refusal.proofs.RepliedLaws.{reply_refused, list-refused, list_left}
-use Rattle.rule_entries.proofs.ReplyLaws.{loss-told}
-use Rattle.rule_lend.proofs.LendLaws.{list_fine, list_same, may_lend_lem}
-use Rattle.rule_entries.specs.Alone.{told, arc_reply, arc_list}
+use borrow.Author.Rules.{rules}
+use borrow.Author.Tests.{lt-ltb}
+use mathlib.Core.Path.{◌≡◌, sym, ap, ◌∙◌}
+use Rattle.std.specs.Prelude.{Err}
+use Rattle.mask.proofs.Logic.{true_holds, clash}
+use Rattle.refusal.specs.Told.{reason_told, told_by}
+use Rattle.refusal.proofs.RepliedLaws.{reply_refused, reply_told, list_refused, list_left}
+use Rattle.rule_lend.proofs.LendLaws.{LentList, list_fine, list_same, may_lend_lem, words_long}
+use Rattle.rule_entries.specs.Alone.{loss_values, arc_reply, arc_list}
+use Rattle.rule_entries.proofs.ArcLaws.{arc_ends}
 use Rattle.rule_entries.proofs.arc_alone.arc_in.Goals as goal
+use Rattle.rule_entries.proofs.arc_alone.arc_in.Goals.{In_ok-list_test}
 
-pub arc_on-requires : goal.arc_on-requires
-arc_on-requires c = let v = list_fine _ _ _ (sym c.list_test-t.ensures ∙ c.in-Fine.is) in (c.requires.0, v.size, c.requires.1)
+-- The list may be lent.
+lent : (c : In_ok-list_test) → LentList c.args.arrays.now.n c.args.list.now
+lent c = list_fine _ _ _ (sym c.list_test.ensures ∙ c.in_ok-list_test.was)
 
-pub returns-in-Refused : goal.returns-in-Refused
-unfolding told arc_reply arc_list
-returns-in-Refused c = λ P h. let q = sym c.list_test-t.ensures ∙ c.in-Refused.is in (reply_refused _ _ _ _ _ q (list_same P _ _ _ _ _ h), list-refused _ _ _ _ _ _ q (list_same P _ _ _ _ _ h))
+pub returns-in_err-list_test : goal.returns-in_err-list_test
+unfolding arc_reply arc_list
+returns-in_err-list_test c = λ P h.
+    let q : c.from_residual.result ≡ Err c.in_err-list_test.field-0.0 = search rules in
+    let s = c.list_test.ensures ∙ list_same P _ _ h in
+    let w = c.in_err-list_test.was in
+    (ap (told_by loss_values reason_told) q ∙ reply_refused _ _ s w, list_refused _ _ _ s w)
 
-pub returns-then-arc_on : goal.returns-then-arc_on
-unfolding told arc_reply arc_list
-returns-then-arc_on c = λ P h. let q = sym c.list_test-t.ensures ∙ c.in-Fine.is in let o = c.arc_on.ensures P h.states (may_lend_lem P _ _ _ _ _ h q) in (loss-told _ _ true _ q (list_same P _ _ _ _ _ h) (sym c.if-arc_on.true ∙ o.0), list_left _ _ _ _ _ q (list_same P _ _ _ _ _ h) o.1)
+pub words_of-w-requires : goal.words_of-w-requires
+words_of-w-requires c = (c.args.arrays.now.most, (lent (goal.at.words_of-w-requires c).In_ok-list_test).size)
 
-pub returns-else-arc_on : goal.returns-else-arc_on
-unfolding told arc_reply arc_list
-returns-else-arc_on c = λ P h. let q = sym c.list_test-t.ensures ∙ c.in-Fine.is in let o = c.arc_on.ensures P h.states (may_lend_lem P _ _ _ _ _ h q) in (loss-told _ _ false _ q (list_same P _ _ _ _ _ h) (sym c.if-arc_on.false ∙ o.0), list_left _ _ _ _ _ q (list_same P _ _ _ _ _ h) o.1)
+pub arc-requires : goal.arc-requires
+arc-requires c =
+    let e = c.everyone.ensures in
+    let l = words_long _ _ _ c.words_of-w.ensures (lent (goal.at.arc-requires c).In_ok-list_test).size c.args.arrays.now.most in
+    (l, (λ x k lx lk b. absurd (clash b (true_holds (e k ∙ lt-ltb k _ lk)))), (λ x lx b. absurd (clash b (true_holds (e x ∙ lt-ltb x _ lx)))))
+
+pub put_back-requires : goal.put_back-requires
+put_back-requires c = (c.args.arrays.now.most, (lent (goal.at.put_back-requires c).In_ok-list_test).size)
+
+pub returns : goal.returns
+unfolding arc_reply arc_list
+returns c = λ P h.
+    let s = c.list_test.ensures ∙ list_same P _ _ h in
+    let w = c.in_ok-list_test.was in
+    let t = may_lend_lem P _ _ h (sym c.list_test.ensures ∙ w) in
+    let o = arc_ends P _ _ h.states _ _ _ _ _ _ c.words_of-w.ensures (lent (goal.at.returns c).In_ok-list_test).size (c.arc.ensures P h.states) c.put_back.ensures t in
+    (reply_told _ _ s w (ap loss_values (c.is_err-lost.ensures.value ∙ o.0)), list_left _ _ _ s w o.1)

@@ -1,32 +1,44 @@
-use borrow.Author.Tests.{lt-ltb, le-ltb}
-use mathlib.Core.Bool.{true, false}
-use mathlib.Core.Path.{sym, ◌∙◌}
-use mathlib.Core.List.{[], ◌∷◌}
-use Rattle.refusal.proofs.RepliedLaws.{reply_refused, list-refused, list_left}
-use Rattle.rule_entries.proofs.ReplyLaws.{named_told}
-use Rattle.rule_lend.proofs.LendLaws.{value_fine, value_same}
-use Rattle.rule_entries.specs.Alone.{told_check, forward_reply, forward_list}
+use borrow.Author.Rules.{rules}
+use mathlib.Core.Path.{◌≡◌, sym, ap, ◌∙◌}
+use Prim.Native.Nat.{◌<◌}
+use Rattle.std.specs.Prelude.{Err}
+use Rattle.refusal.specs.Told.{reason_told, told_by}
+use Rattle.refusal.proofs.RepliedLaws.{reply_refused, reply_told, list_refused, list_left}
+use Rattle.rule_lend.proofs.LendLaws.{LentList, value_fine, value_same, words_long, words_nonzero}
+use Rattle.rule_entries.specs.Alone.{check_values, forward_reply, forward_list}
+use Rattle.rule_entries.proofs.CheckLaws.{forward_ends}
 use Rattle.rule_entries.proofs.forward_alone.forward_in.Goals as goal
+use Rattle.rule_entries.proofs.forward_alone.forward_in.Goals.{In_ok-value_test}
 
-pub forward_on-named-requires : goal.forward_on-named-requires
-forward_on-named-requires c = let v = value_fine _ _ _ _ _ (sym c.value_test-t.ensures ∙ c.in-Fine.is) in (c.requires.0, v.1, v.2, v.0.size, c.requires.1, v.0.some)
+-- The list may be lent, and has this value.
+lent : (c : In_ok-value_test) → LentList c.args.arrays.now.n c.args.list.now × (c.args.x < c.args.arrays.now.n) × (c.args.a < 16)
+lent c = value_fine _ _ _ _ _ (sym c.value_test.ensures ∙ c.in_ok-value_test.was)
 
-pub returns-in-Refused : goal.returns-in-Refused
-unfolding told_check forward_reply forward_list
-returns-in-Refused c = λ P h. let q = sym c.value_test-t.ensures ∙ c.in-Refused.is in (reply_refused _ _ _ _ _ q (value_same P _ _ _ _ _ h _ _), list-refused _ _ _ _ _ _ q (value_same P _ _ _ _ _ h _ _))
+pub returns-in_err-value_test : goal.returns-in_err-value_test
+unfolding forward_reply forward_list
+returns-in_err-value_test c = λ P h.
+    let q : c.from_residual.result ≡ Err c.in_err-value_test.field-0.0 = search rules in
+    let s = c.value_test.ensures ∙ value_same P _ _ h _ _ in
+    let w = c.in_err-value_test.was in
+    (ap (told_by check_values reason_told) q ∙ reply_refused _ _ s w, list_refused _ _ _ s w)
 
-pub returns-then-named-v : goal.returns-then-named-v
-unfolding told_check forward_reply forward_list
-returns-then-named-v c = λ P h.
-    let q = sym c.value_test-t.ensures ∙ c.in-Fine.is in
-    let s = value_same P _ _ _ _ _ h _ _ in
-    let o = c.forward_on-named.ensures P h.states in
-    (named_told _ _ true (c.forward_on-named.result ∷ []) _ _ _ q s (lt-ltb _ _ c.if-named-v.true) o.0, list_left _ _ _ _ _ q s o.1)
+pub words_of-w-requires : goal.words_of-w-requires
+words_of-w-requires c = (c.args.arrays.now.most, (lent (goal.at.words_of-w-requires c).In_ok-value_test).0.size)
 
-pub returns-else-named-v : goal.returns-else-named-v
-unfolding told_check forward_reply forward_list
-returns-else-named-v c = λ P h.
-    let q = sym c.value_test-t.ensures ∙ c.in-Fine.is in
-    let s = value_same P _ _ _ _ _ h _ _ in
-    let o = c.forward_on-named.ensures P h.states in
-    (named_told _ _ false (c.forward_on-named.result ∷ []) _ _ _ q s (le-ltb _ _ c.if-named-v.false) o.0, list_left _ _ _ _ _ q s o.1)
+pub forward-named-requires : goal.forward-named-requires
+forward-named-requires c =
+    let l = lent (goal.at.forward-named-requires c).In_ok-value_test in
+    let e = c.words_of-w.ensures in
+    (l.1, l.2, words_long _ _ _ e l.0.size c.args.arrays.now.most, words_nonzero _ _ _ e l.0.size l.0.some)
+
+pub put_back-requires : goal.put_back-requires
+put_back-requires c = (c.args.arrays.now.most, (lent (goal.at.put_back-requires c).In_ok-value_test).0.size)
+
+pub returns : goal.returns
+unfolding forward_reply forward_list
+returns c = λ P h.
+    let s = c.value_test.ensures ∙ value_same P _ _ h _ _ in
+    let w = c.in_ok-value_test.was in
+    let l = lent (goal.at.returns c).In_ok-value_test in
+    let o = forward_ends P _ _ h.states _ _ c.words_of-w.ensures l.0.size _ _ _ _ _ (c.forward-named.ensures.0 P h.states) c.put_back.ensures in
+    (reply_told _ _ s w o.0, list_left _ _ _ s w o.1)

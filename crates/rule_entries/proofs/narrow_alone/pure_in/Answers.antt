@@ -1,17 +1,36 @@
-use mathlib.Core.Path.{sym, ◌∙◌}
-use Rattle.refusal.proofs.RepliedLaws.{reply_refused}
-use Rattle.rule_entries.proofs.ReplyLaws.{mask_told}
-use Rattle.rule_lend.proofs.LendLaws.{variable_fine, variable_same}
-use Rattle.rule_entries.specs.Alone.{told_values, pure_reply}
+use borrow.Author.Rules.{rules}
+use mathlib.Core.Path.{◌≡◌, sym, ap, ◌∙◌}
+use Prim.Native.Nat.{◌<◌}
+use Rattle.std.specs.Prelude.{Err}
+use Rattle.refusal.specs.Told.{reason_told, told_by}
+use Rattle.refusal.proofs.RepliedLaws.{reply_refused, reply_told}
+use Rattle.game.specs.Pure.{pure}
+use Rattle.rule_lend.proofs.LendLaws.{LentList, variable_fine, variable_same, words_hold, words_long}
+use Rattle.rule_entries.specs.Alone.{mask_values, pure_reply}
 use Rattle.rule_entries.proofs.narrow_alone.pure_in.Goals as goal
+use Rattle.rule_entries.proofs.narrow_alone.pure_in.Goals.{In_ok-variable_test}
 
-pub pure_on-requires : goal.pure_on-requires
-pure_on-requires c = let v = variable_fine _ _ _ _ (sym c.variable_test-t.ensures ∙ c.in-Fine.is) in (v.1, c.requires.0, v.0.size, c.requires.1)
+-- The list may be lent, and has this variable.
+lent : (c : In_ok-variable_test) → LentList c.args.arrays.now.n c.args.list.now × (c.args.x < c.args.arrays.now.n)
+lent c = variable_fine _ _ _ _ (sym c.variable_test.ensures ∙ c.in_ok-variable_test.was)
 
-pub returns-in-Refused : goal.returns-in-Refused
-unfolding told_values pure_reply
-returns-in-Refused c = λ P h. reply_refused _ _ _ _ _ (sym c.variable_test-t.ensures ∙ c.in-Refused.is) (variable_same P _ _ _ _ _ h _)
+pub returns-in_err-variable_test : goal.returns-in_err-variable_test
+unfolding pure_reply
+returns-in_err-variable_test c = λ P h.
+    let q : c.from_residual.result ≡ Err c.in_err-variable_test.field-0.0 = search rules in
+    ap (told_by mask_values reason_told) q ∙ reply_refused _ _ (c.variable_test.ensures ∙ variable_same P _ _ h _) c.in_err-variable_test.was
 
-pub returns-in-Fine : goal.returns-in-Fine
-unfolding told_values pure_reply
-returns-in-Fine c = λ P h. mask_told _ _ _ _ (sym c.variable_test-t.ensures ∙ c.in-Fine.is) (variable_same P _ _ _ _ _ h _) (c.pure_on.ensures P _ h.states)
+pub words_of-w-requires : goal.words_of-w-requires
+words_of-w-requires c = (c.args.arrays.now.most, (lent (goal.at.words_of-w-requires c).In_ok-variable_test).0.size)
+
+pub pure_values-requires : goal.pure_values-requires
+pure_values-requires c =
+    let l = lent (goal.at.pure_values-requires c).In_ok-variable_test in
+    (l.1, words_long _ _ _ c.words_of-w.ensures l.0.size c.args.arrays.now.most)
+
+pub returns : goal.returns
+unfolding pure_reply
+returns c = λ P h.
+    let l = lent (goal.at.returns c).In_ok-variable_test in
+    reply_told _ _ (c.variable_test.ensures ∙ variable_same P _ _ h _) c.in_ok-variable_test.was
+    (ap mask_values (c.pure_values.ensures P h.states ∙ ap (pure P _) (words_hold _ _ _ c.words_of-w.ensures l.0.size)))

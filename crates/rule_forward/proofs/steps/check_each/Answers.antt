@@ -2,65 +2,75 @@ use borrow.Author.Rules.{rules}
 use lib.ListN.{length}
 use mathlib.Core.Path.{refl, ap, ◌∙◌}
 use native.Mathlib.Omega.{arith}
-use Rattle.mask.proofs.Members.{low_lt, rest_lt}
+use borrow.Author.Tests.{lt-ltb, le-ltb}
+use Rattle.mask.specs.Found.{found}
+use Rattle.mask.proofs.Chains.{took_lt}
 use Rattle.rule_forward.proofs.StepLaws.{passing_start, passing_turn, passing_end, length_checked, unmoved_turn}
 use Rattle.rule_forward.proofs.steps.check_each.Goals as goal
 
-pub loop-left-init : goal.loop-left-init
-loop-left-init c = (search rules, passing_start _ _ _ _ _ _ _ c.requires.0 _ c.requires.3 (λ k. omega (arith, c.slice_known-1.given k)) _, λ k l b. refl)
+pub loop-j-init : goal.loop-j-init
+loop-j-init c =
+    let e = ap (λ s. s.left) c.into_iter-j-iterator.ensures.into_iter_gives ∙ c.members_of-j-items.ensures in
+    (rw e (passing_start _ _ _ _ _ c.args.arrays.now.most _ c.requires.2 (λ k. omega (arith, c.slice_known-1.given k)) _), λ k l b. refl)
 
 pub offset_bounds-w-j : goal.offset_bounds-w-j
-offset_bounds-w-j c = let f = low_lt 32 _ c.loop-left.invariant.0 c.loop-left-test.true in search rules
+offset_bounds-w-j c = let f = took_lt c.in-Some.ensures.steps in search rules
 
 pub bounds-w-j : goal.bounds-w-j
 bounds-w-j c =
     let p = c.requires in
-    let i = c.loop-left.invariant in
-    let f = low_lt 32 _ i.0 c.loop-left-test.true in
-    let e = ap length i.1.words ∙ length_checked _ _ _ _ _ _ _ p.0 _ p.3 _ in
-    let l = p.3 in
+    let f = took_lt c.in-Some.ensures.steps in
+    let e = ap length c.loop-j.invariant.0.words ∙ length_checked _ _ _ _ _ c.args.arrays.now.most _ p.2 _ in
+    let l = p.2 in
     omega arith
 
 pub check_at-lost-requires : goal.check_at-lost-requires
 check_at-lost-requires c =
     let p = c.requires in
-    let i = c.loop-left.invariant in
-    let f = low_lt 32 _ i.0 c.loop-left-test.true in
-    let e = ap length i.1.words ∙ length_checked _ _ _ _ _ _ _ p.0 _ p.3 _ in
-    (p.1, p.2, omega arith, omega arith, p.4)
+    let f = took_lt c.in-Some.ensures.steps in
+    let e = ap length c.loop-j.invariant.0.words ∙ length_checked _ _ _ _ _ c.args.arrays.now.most _ p.2 _ in
+    (p.0, p.1, f, omega arith)
 
-pub offset_bounds-w-j-in-loop-left : goal.offset_bounds-w-j-in-loop-left
-offset_bounds-w-j-in-loop-left c = let f = low_lt 32 _ c.loop-left.invariant.0 c.loop-left-test.true in search rules
+pub offset_bounds-w-j-in-loop-j : goal.offset_bounds-w-j-in-loop-j
+offset_bounds-w-j-in-loop-j c = let f = took_lt c.in-Some.ensures.steps in search rules
 
-pub bounds-w-j-in-loop-left : goal.bounds-w-j-in-loop-left
-bounds-w-j-in-loop-left c =
+pub bounds-w-j-in-loop-j : goal.bounds-w-j-in-loop-j
+bounds-w-j-in-loop-j c =
     let p = c.requires in
-    let i = c.loop-left.invariant in
-    let f = low_lt 32 _ i.0 c.loop-left-test.true in
-    let e = ap length i.1.words ∙ length_checked _ _ _ _ _ _ _ p.0 _ p.3 _ in
-    let l = p.3 in
+    let f = took_lt c.in-Some.ensures.steps in
+    let e = ap length c.loop-j.invariant.0.words ∙ length_checked _ _ _ _ _ c.args.arrays.now.most _ p.2 _ in
+    let l = p.2 in
     search rules
 
 pub noted-narrowed-requires : goal.noted-narrowed-requires
-noted-narrowed-requires c = let f = low_lt 32 _ c.loop-left.invariant.0 c.loop-left-test.true in omega arith
+noted-narrowed-requires c = took_lt c.in-Some.ensures.steps
 
-pub loop-left-smaller : goal.loop-left-smaller
-loop-left-smaller c = rw c.rest_of_32-left.ensures (rest_lt _ c.loop-left-test.true)
-
-pub loop-left-preserved : goal.loop-left-preserved
-loop-left-preserved c =
+pub loop-j-preserved : goal.loop-j-preserved
+loop-j-preserved c =
     let p = c.requires in
-    let i = c.loop-left.invariant in
+    let i = c.loop-j.invariant in
+    let k = c.in-Some.ensures.steps in
     let r = c.check_at-lost.ensures in (
-      search rules,
-      passing_turn _ _ _ _ _ _ _ p.0 _ p.3 _ p.5 _ i.0 c.loop-left-test.true _ _ i.1 _ _ _ _ _ c.lowest_32-j.ensures c.rest_of_32-left.ensures r.0 r.1 c.least-named.ensures,
-      unmoved_turn _ _ _ _ _ _ c.args.w.now _ _ r.1 c.noted-narrowed.ensures i.2,
+      passing_turn _ _ _ _ _ c.args.arrays.now.most _ p.2 _ p.3 _ k.fits k.some _ _ i.0 _ _ _ _ _ k.low k.left r.0 r.1 c.least-named.ensures,
+      unmoved_turn _ _ _ _ _ _ c.args.w.now _ _ r.1 c.noted-narrowed.ensures i.1,
     )
 
-pub shape_of-w : goal.shape_of-w
-shape_of-w c = ap length c.loop-left.invariant.1.words ∙ length_checked _ _ _ _ _ _ _ c.requires.0 _ c.requires.3 _
+pub shape_of-w-then-named-n : goal.shape_of-w-then-named-n
+shape_of-w-then-named-n c = ap length c.loop-j.invariant.0.words ∙ length_checked _ _ _ _ _ c.args.arrays.now.most _ c.requires.2 _
 
-pub returns : goal.returns
-returns c =
-    let e = passing_end _ _ _ _ _ _ _ c.requires.0 _ c.requires.3 _ _ _ _ c.loop-left.invariant.1 c.loop-left-test.false in
-    (e.0, e.1, c.loop-left.invariant.2)
+pub shape_of-w-else-named-n : goal.shape_of-w-else-named-n
+shape_of-w-else-named-n c = ap length c.loop-j.invariant.0.words ∙ length_checked _ _ _ _ _ c.args.arrays.now.most _ c.requires.2 _
+
+pub returns-then-named-n : goal.returns-then-named-n
+unfolding found
+returns-then-named-n c =
+    let i = c.loop-j.invariant in
+    let e = passing_end _ _ _ _ _ c.args.arrays.now.most _ c.requires.2 _ _ _ _ i.0 c.in-None.ensures.steps.0 in
+    (rw (← e.0, lt-ltb _ _ c.if-named-n.true), e.1, i.1)
+
+pub returns-else-named-n : goal.returns-else-named-n
+unfolding found
+returns-else-named-n c =
+    let i = c.loop-j.invariant in
+    let e = passing_end _ _ _ _ _ c.args.arrays.now.most _ c.requires.2 _ _ _ _ i.0 c.in-None.ensures.steps.0 in
+    (rw (← e.0, le-ltb _ _ c.if-named-n.false), e.1, i.1)

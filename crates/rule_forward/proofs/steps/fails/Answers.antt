@@ -4,4 +4,4 @@ use Rattle.rule_forward.proofs.steps.fails.Goals as goal
 
 pub returns : goal.returns
 unfolding failing
-returns c = rw (sym c.contains_32.ensures, sym c.row.ensures) c.fails_at.ensures
+returns c = rw (sym c.contains.ensures, sym c.row.ensures) c.fails_at.ensures

@@ -1,5 +1,8 @@
-use mathlib.Core.Path.{sym}
+use mathlib.Core.Path.{sym, ◌∙◌}
 use Rattle.rule_forward.proofs.steps.tried.Goals as goal
 
-pub returns : goal.returns
-returns c = rw (sym c.contains_32.ensures) c.only.ensures
+pub returns-then-contains : goal.returns-then-contains
+returns-then-contains c = rw (sym c.contains.ensures ∙ c.if-contains.true)
+
+pub returns-else-contains : goal.returns-else-contains
+returns-else-contains c = rw (sym c.contains.ensures ∙ c.if-contains.false)

@@ -1,22 +1,16 @@
 use borrow.Author.Rules.{rules}
-use mathlib.Core.Path.{refl, sym, ap, ◌∙◌}
+use borrow.Author.Tests.{tests}
+use mathlib.Core.Path.{refl, ◌∙◌}
 use native.Mathlib.Omega.{arith}
-use Rattle.mask.specs.Range.{some}
-use Rattle.session.proofs.OpenLaws.{stuck-here, stuck-next}
+use Rattle.std.proofs.lemmas.Iterator.{YieldsList-from_range}
+use Rattle.std.proofs.lemmas.Iterator.Search.{any_from_yields_List}
 use Rattle.session.specs.Opening.{cause_at, stuck_to}
+use Rattle.session.proofs.Below.{any_below}
 use Rattle.session.proofs.open.is_stuck.Goals as goal
 
-pub loop-j-init : goal.loop-j-init
-unfolding stuck_to some
-loop-j-init c = (search rules, refl)
-
-pub returns-then-stuck_at : goal.returns-then-stuck_at
-unfolding cause_at
-returns-then-stuck_at c = stuck-here _ _ _ _ _ _ (search rules) c.stuck_at.ensures c.if-stuck_at.true
-
-pub loop-j-preserved : goal.loop-j-preserved
-unfolding cause_at
-loop-j-preserved c = (search rules, stuck-next _ _ _ _ _ _ c.loop-j.invariant.1 c.stuck_at.ensures c.if-stuck_at.false)
-
 pub returns : goal.returns
-returns c = sym (ap (stuck_to _ _ _ _) (omega arith) ∙ c.loop-j.invariant.1)
+unfolding cause_at stuck_to
+returns c =
+    let a = c.args in
+    any_from_yields_List (cause_at a.arrays.now a.p) _ _ _ c.any.ensures.ran (YieldsList-from_range 0 a.arrays.now.own a.arrays.now.own refl (omega arith)) (λ x b q k. search (rules, tests))
+    ∙ any_below _ _

@@ -5,7 +5,7 @@ use Rattle.session.proofs.open.open_mask.Goals as goal
 
 pub returns : goal.returns
 returns c =
-    open_chosen _ _ _ _ _ c.args.closed _ c.args.m c.args.j _ _ _ _ _
+    open_chosen _ _ _ c.args.closed _ c.args.m c.args.j _ _ _ _ _
     (c.single-own.ensures ∙ ap (λ a. 2 ^ a) c.value_at.ensures.0)
-    c.going_with-going.ensures c.contains_32-whole.ensures
+    c.going_with-going.ensures c.contains-whole.ensures
     c.choose-unplayed.ensures c.choose-usable.ensures c.choose.ensures

@@ -1,23 +1,53 @@
-use mathlib.Core.Path.{sym, ap, ◌∙◌}
+use Prim.Native.Nat.{◌<◌}
+use borrow.Author.Rules.{rules}
+use borrow.Author.Tests.{ltb-true}
+use mathlib.Core.Path.{refl, sym, ◌∙◌}
 use native.Mathlib.Omega.{arith}
-use Rattle.position.specs.Position.{pushed}
-use Rattle.session.proofs.PlayLaws.{play_fine, play_refused, play_done}
+use Rattle.mask.proofs.Logic.{true_holds}
+use Rattle.refusal.proofs.Chain.{stops, goes, need_fine}
+use Rattle.refusal.proofs.RepliedLaws.{passed_stops, passed_goes}
+use Rattle.session.specs.Plays.{play_test, play_in}
+use Rattle.session.proofs.PlayLaws.{value_small}
 use Rattle.session.proofs.plays.play_in.Goals as goal
+use Rattle.session.proofs.plays.play_in.Goals.{In_ok-needed}
 
-pub offset_bounds-domains-plays : goal.offset_bounds-domains-plays
-offset_bounds-domains-plays c = let k = play_fine _ _ _ _ (sym c.play_test-v.ensures ∙ c.in-Fine.is) in omega arith
+-- A variable is left.
+next : (c : In_ok-needed) → c.args.p.plays < c.args.n
+next c = ltb-true _ _ (need_fine _ _ (sym c.needed.ensures ∙ c.in_ok-needed.was))
 
-pub bounds-domains-plays : goal.bounds-domains-plays
-bounds-domains-plays c = let k = play_fine _ _ _ _ (sym c.play_test-v.ensures ∙ c.in-Fine.is) in omega arith
+pub offset_bounds-domains-p : goal.offset_bounds-domains-p
+offset_bounds-domains-p c = let l = next (goal.at.offset_bounds-domains-p c).In_ok-needed in omega arith
 
-pub byte_of-requires : goal.byte_of-requires
-byte_of-requires c = (play_fine _ _ _ _ (sym c.play_test-v.ensures ∙ c.in-Fine.is)).1
+pub bounds-domains-p : goal.bounds-domains-p
+bounds-domains-p c = let l = next (goal.at.bounds-domains-p c).In_ok-needed in omega arith
 
-pub pushed-q-requires : goal.pushed-q-requires
-pushed-q-requires c = let k = play_fine _ _ _ _ (sym c.play_test-v.ensures ∙ c.in-Fine.is) in omega arith
+pub overflow_cast-value : goal.overflow_cast-value
+overflow_cast-value c =
+    let k = value_small _ _ (omega arith) (true_holds (sym c.holds.ensures ∙ need_fine _ _ (sym c.needed-2.ensures ∙ c.in_ok-needed-2.was))) in omega arith
 
-pub returns-in-Refused : goal.returns-in-Refused
-returns-in-Refused c = play_refused _ _ _ _ _ _ _ (sym c.play_test-v.ensures ∙ c.in-Refused.is) c.refuse.ensures
+pub pushed-requires : goal.pushed-requires
+pushed-requires c = let l = next (goal.at.pushed-requires c).In_ok-needed in omega arith
 
-pub returns-in-Fine : goal.returns-in-Fine
-returns-in-Fine c = play_done _ _ _ _ _ (sym c.play_test-v.ensures ∙ c.in-Fine.is) (c.pushed-q.ensures ∙ ap (pushed _) c.byte_of.ensures)
+pub returns-in_err-fit_test : goal.returns-in_err-fit_test
+unfolding play_test play_in
+returns-in_err-fit_test c = (search rules) ∙ passed_stops _ _ refl (sym (stops _ _ c.fit_test.ensures c.in_err-fit_test.was))
+
+pub returns-in_err-needed : goal.returns-in_err-needed
+unfolding play_test play_in
+returns-in_err-needed c =
+    (search rules) ∙ passed_stops _ _ refl (sym (goes _ _ c.fit_test.ensures c.in_ok-fit_test.was (stops _ _ c.needed.ensures c.in_err-needed.was)))
+
+pub returns-in_err-needed-2 : goal.returns-in_err-needed-2
+unfolding play_test play_in
+returns-in_err-needed-2 c =
+    (search rules)
+    ∙ passed_stops _ _ refl
+    (sym (goes _ _ c.fit_test.ensures c.in_ok-fit_test.was (goes _ _ c.needed.ensures c.in_ok-needed.was
+    (sym c.in_err-needed-2.was ∙ rw (← c.holds.ensures) c.needed-2.ensures))))
+
+pub returns : goal.returns
+unfolding play_test play_in
+returns c =
+    passed_goes _ _ refl
+    (sym (goes _ _ c.fit_test.ensures c.in_ok-fit_test.was (goes _ _ c.needed.ensures c.in_ok-needed.was
+    (sym c.in_ok-needed-2.was ∙ rw (← c.holds.ensures) c.needed-2.ensures)))) c.pushed.ensures

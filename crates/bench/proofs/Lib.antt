@@ -1,0 +1,2 @@
+-- A value of a reply as its number.
+pub mod NumberLaws

@@ -1,0 +1,45 @@
+-- Chains over the numbers below n: `all` is `each`.
+use Prim.Native.Nat.{ℕ, ◌<◌}
+use mathlib.Core.Path.{◌≡◌, sym, ◌∙◌, subst}
+use mathlib.Core.Bool.{Bool, true, false}
+use mathlib.Core.List.{List}
+use native.Mathlib.Omega.{arith}
+use lib.ListN.{length}
+use denote.Param.Members.{Mut}
+use Rattle.std.specs.declared.ops.Range.{Range}
+use Rattle.std.specs.Bool.{MatchBool}
+use Rattle.std.specs.Fn.{Called}
+use Rattle.std.specs.Iterator.{ChecksAll}
+use Rattle.std.specs.List.{range_with_len, AllWithin, HoldsAt}
+use Rattle.std.proofs.iter.Yields.{nat_range_steps}
+use Rattle.std.proofs.lemmas.Iterator.{cases_from_all, YieldsList-from_range}
+use Rattle.std.proofs.lemmas.List.FromFn.{length-range_with_len, get_or-range_with_len}
+use Rattle.mask.specs.Range.{each}
+use Rattle.mask.proofs.Logic.{holds, fails, clash, true_holds}
+use Rattle.mask.proofs.Range.{each_in, each_out}
+
+-- A call of the closure leaves it, and gives the test of a number below n.
+pub all_below :
+    {F : Type 0} {g : Mut F (ℕ × Unit {0}) Bool} {s u : Range ℕ} {f : F} {r : Bool} (n : ℕ) (test : ℕ → Bool)
+    → ChecksAll nat_range_steps g s f r u → s ≡ record { start = 0; end = n }
+    → ((x : ℕ) (b : Bool) (q : F) → Called g f (x, tt) b q → (q ≡ f) × (x < n → b ≡ test x)) → r ≡ each n (λ a. true) test
+all_below {u = u} {f = f} {r = r} n test c e computes =
+    by r
+    (cases_from_all u f r (λ x. x < n → true ≡ test x) (λ x. x < n → false ≡ test x) c (YieldsList-from_range 0 n n e (omega arith))
+    (λ x q k. computes x true q k) (λ x q k. (computes x false q k).1))
+  where
+    all : List ℕ
+    all = range_with_len 0 n
+
+    at : (P : ℕ → Type 0) (k : ℕ) → k < n → HoldsAt P all k → P k
+    at P k l h = subst P (get_or-range_with_len 0 n k 0 l ∙ omega arith) (h 0)
+
+    by : (r : Bool)
+        → MatchBool r (AllWithin (λ x. x < n → true ≡ test x) all 0 (length all)) ((k : ℕ) × (k < length all) × HoldsAt (λ x. x < n → false ≡ test x) all k)
+        → r ≡ each n (λ a. true) test
+    by true h =
+        sym (holds (each_in n (λ a. true) test
+        (λ a l t. true_holds (sym (at (λ x. x < n → true ≡ test x) a l (λ d. h a d (omega arith) (omega (arith, length-range_with_len 0 n))) l)))))
+    by false h =
+        let l : h.0 < n = omega (arith, h.1, length-range_with_len 0 n) in
+        sym (fails (λ t. clash (sym (at (λ x. x < n → false ≡ test x) h.0 l h.2 l)) (each_out n (λ a. true) test t h.0 l tt)))

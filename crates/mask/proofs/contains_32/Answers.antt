@@ -1,7 +1,0 @@
-use borrow.Author.Rules.{rules}
-use Rattle.mask.specs.Mask.{bit}
-use Rattle.mask.proofs.contains_32.Goals as goal
-
-pub returns : goal.returns
-unfolding bit
-returns c = search rules

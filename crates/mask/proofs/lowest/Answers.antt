@@ -1,5 +1,0 @@
-use Rattle.mask.proofs.Bits.{zeros_first}
-use Rattle.mask.proofs.lowest.Goals as goal
-
-pub returns : goal.returns
-returns c = zeros_first 16 c.args.m

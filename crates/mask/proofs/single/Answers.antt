@@ -1,5 +1,0 @@
-use Rattle.mask.proofs.Bits.{shl_one}
-use Rattle.mask.proofs.single.Goals as goal
-
-pub returns : goal.returns
-returns c = shl_one 16 c.args.k c.requires

@@ -1,0 +1,5 @@
+use Rattle.mask.proofs.Bits.{zeros_first}
+use Rattle.mask.proofs.widths.U16Mask.zeros.Goals as goal
+
+pub returns : goal.returns
+returns c = zeros_first 16 c.args.self

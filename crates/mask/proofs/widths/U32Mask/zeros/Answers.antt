@@ -1,0 +1,5 @@
+use Rattle.mask.proofs.Bits.{zeros_first}
+use Rattle.mask.proofs.widths.U32Mask.zeros.Goals as goal
+
+pub returns : goal.returns
+returns c = zeros_first 32 c.args.self

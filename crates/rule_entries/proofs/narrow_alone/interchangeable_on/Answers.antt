@@ -1,7 +1,0 @@
-use mathlib.Core.Path.{ap, ◌∙◌}
-use Rattle.game.specs.Interchangeable.{interchangeable}
-use Rattle.rule_lend.proofs.LendLaws.{words_hold}
-use Rattle.rule_entries.proofs.narrow_alone.interchangeable_on.Goals as goal
-
-pub returns : goal.returns
-returns c = λ P u S. c.interchangeable_values.ensures P u S ∙ ap (interchangeable P _) (words_hold _ _ _ c.words_of-w.ensures c.requires.2 c.requires.1)
