@@ -13,10 +13,7 @@ use rule_entries::{arc, forward_check, interchangeable, look_ahead, pure};
 pub extern "C" fn bench_decode(f: &[u8]) -> u64
     ensures { result ≡ get_or (domains_of f.now) 0 0 }
 {
-    match decode(f) {
-        Ok(arrays) => arrays.domains[0] as u64,
-        Err(_) => 0,
-    }
+    decode(f).map_or(0, |arrays| arrays.domains[0] as u64)
 }
 
 #[unsafe(no_mangle)]
@@ -24,7 +21,7 @@ pub extern "C" fn bench_arc(f: &[u8], list: &mut [u16]) -> u64
     ensures value { result ≡ as_number 2 (arc_told f.now list.old) }
     ensures list_after { list.new ≡ arc_left f.now list.old }
 {
-    number(arc(f, list).map(|lost| lost as u64), 2)
+    number(arc(f, list), 2)
 }
 
 #[unsafe(no_mangle)]
@@ -32,32 +29,26 @@ pub extern "C" fn bench_forward(f: &[u8], list: &mut [u16], x: usize, a: usize) 
     ensures value { result ≡ as_number 2 (forward_told f.now list.old x a) }
     ensures list_after { list.new ≡ forward_left f.now list.old x a }
 {
-    number(
-        forward_check(f, list, x, a).map(|named| named.is_some() as u64),
-        2,
-    )
+    number(forward_check(f, list, x, a), 2)
 }
 
 #[unsafe(no_mangle)]
 pub extern "C" fn bench_look_ahead(f: &[u8], list: &[u16], x: usize) -> u64
     ensures { result ≡ as_number 2 (ahead_told f.now list.now x) }
 {
-    number(
-        look_ahead(f, list, x).map(|named| named.is_some() as u64),
-        2,
-    )
+    number(look_ahead(f, list, x), 2)
 }
 
 #[unsafe(no_mangle)]
 pub extern "C" fn bench_pure(f: &[u8], list: &[u16], x: usize) -> u64
     ensures { result ≡ as_number 65536 (pure_told f.now list.now x) }
 {
-    number(pure(f, list, x).map(|mask| mask as u64), 65536)
+    number(pure(f, list, x), 65536)
 }
 
 #[unsafe(no_mangle)]
 pub extern "C" fn bench_interchangeable(f: &[u8], list: &[u16], x: usize) -> u64
     ensures { result ≡ as_number 65536 (interchangeable_told f.now list.now x) }
 {
-    number(interchangeable(f, list, x).map(|mask| mask as u64), 65536)
+    number(interchangeable(f, list, x), 65536)
 }

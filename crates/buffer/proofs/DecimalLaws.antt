@@ -8,6 +8,7 @@ use native.Mathlib.Numerals.{unary_clauses}
 use native.Mathlib.Omega.{arith}
 use Rattle.mask.proofs.Logic.{by_lt}
 use Rattle.buffer.specs.Decimal.{digit, spelled, decimal}
+use Rattle.buffer.specs.declared.Text.{Text}
 use Rattle.buffer.specs.Put.{Put}
 use Rattle.buffer.proofs.PutLaws.{put_behind}
 
@@ -60,11 +61,12 @@ decimal_short (suc k) x h =
 
 -- ---- numbers in a buffer
 
-module _ {l : List ℕ} {at : ℕ} (x : ℕ) where
-  -- One digit; the digits of the tenth, then the last.
-  pub number-one : {l' : List ℕ} {b r : ℕ} → x < 10 → b ≡ digit x → Put l at (b ∷ []) r l' → Put l at (decimal x) r l'
-  number-one {l'} {b} {r} h e p = subst (λ (v : List ℕ). Put l at v r l') (ap (λ (d : ℕ). d ∷ []) e ∙ sym (decimal-one x h)) p
+-- The last digit alone; the digits of the tenth, then the last.
+pub number-one : {s t : Text} {b : ℕ} (x : ℕ) → x ≤ 9 → b ≡ digit (x % 10) → Put s (b ∷ []) t → Put s (decimal x) t
+number-one {s} {t} x h e p =
+    let z : x % 10 ≡ x = omega (arith, h) in
+    subst (λ (v : List ℕ). Put s v t) (ap (λ (d : ℕ). d ∷ []) (e ∙ ap digit z) ∙ sym (decimal-one x (omega (arith, h)))) p
 
-  pub number_more : {l' l'' : List ℕ} {e b r : ℕ} → 10 ≤ x → b ≡ digit (x % 10) → Put l' e (b ∷ []) r l'' → Put l at (decimal (x / 10)) e l' → Put l at (decimal x) r l''
-  number_more {l'} {l''} {e} {b} {r} h z q p =
-      subst (λ (v : List ℕ). Put l at v r l'') (ap (λ (d : ℕ). decimal (x / 10) ++ (d ∷ [])) z ∙ sym (decimal_more x h)) (put_behind p q)
+pub number_more : {s t u : Text} {b : ℕ} (x : ℕ) → 9 < x → b ≡ digit (x % 10) → Put s (decimal (x / 10)) t → Put t (b ∷ []) u → Put s (decimal x) u
+number_more {s} {t} {u} x h z p q =
+    subst (λ (v : List ℕ). Put s v u) (ap (λ (d : ℕ). decimal (x / 10) ++ (d ∷ [])) z ∙ sym (decimal_more x (omega (arith, h)))) (put_behind p q)

@@ -1,11 +1,19 @@
 -- Runs of stores, and lists that stand one behind another.
 use Prim.Native.Nat.{ℕ, zero, suc, ◌+◌, ◌*◌, ◌≤◌, ◌<◌}
 use mathlib.Core.Path.{◌≡◌, refl, sym, ap, ap₂, ◌∙◌}
+use mathlib.Core.Bool.{Bool, true, false, not, ◌&&◌, and-true, and-false}
 use mathlib.Core.List.{List, [], ◌∷◌, ◌++◌, append-nil, append_assoc}
 use lib.ListN.{length, set, drop, length-append}
 use lib.Seq.{sets, length-sets, sets-eq}
 use native.Mathlib.Nat.{zero-add, add-zero, add-suc, suc-add, mul-zero, mul-suc}
 use native.Mathlib.Omega.{arith}
+use lib.Dec.{eqb}
+use borrow.Author.Tests.{eq-eqb, ne_eqb}
+use Rattle.mask.specs.Mask.{bit}
+use Rattle.mask.specs.Upward.{Took}
+use Rattle.mask.proofs.Logic.{holds, by_eq}
+use Rattle.mask.proofs.Bits.{bit_of_zero}
+use Rattle.mask.proofs.Chains.{took_lt, took_in, none_below, bit-left}
 use Rattle.buffer.specs.Stored.{stored, joined}
 
 -- Two runs of stores, one behind the other, are one.
@@ -85,3 +93,41 @@ joined-from g i zero = rw add-zero (sym (append-nil (g i)))
 joined-from g i (suc k) =
     let e : i + suc k ≡ suc i + k = omega arith in
     rw e (ap (λ xs. xs ++ g (suc i + k)) (joined-from g i k) ∙ append_assoc (g i) (joined (λ t. g (suc i + t)) k) (g (suc i + k)))
+
+-- Where nothing stands before list j, and h has the others: that list, then those of h.
+joined-lowest : {A : Type 0} (g h : ℕ → List A) (j k : ℕ) → j < k → ((i : ℕ) → i < j → g i ≡ []) → ((i : ℕ) → i < suc j → h i ≡ []) → ((i : ℕ) → j < i → h i ≡ g i)
+    → joined g k ≡ g j ++ joined h k
+unfolding joined
+joined-lowest g h j zero l f e s = absurd (omega arith)
+joined-lowest g h j (suc k) l f e s =
+    by_eq j k
+    (λ z.
+    let f' : joined g k ≡ [] = joined_none g k (λ i b. f i (omega arith)) in
+    let e' : joined h k ≡ [] = joined_none h k (λ i b. e i (omega arith)) in
+    let y : h k ≡ [] = e k (omega arith) in
+    rw (f', e', y, z) (sym (append-nil (g k))))
+    (λ z. ap (λ xs. xs ++ g k) (joined-lowest g h j k (omega arith) f e s) ∙ append_assoc (g j) (joined h k) (g k) ∙ ap (λ xs. g j ++ (joined h k ++ xs)) (sym (s k (omega arith))))
+
+-- ---- lists of the members of a mask: g a b is the list of a where b is true, and empty where it is false
+
+module _ {A : Type 0} {w m j v : ℕ} (k : Took w m j v) (g : ℕ → Bool → List A) (empty : (a : ℕ) → g a false ≡ []) where
+  -- That of the lowest, then those of the rest.
+  pub joined_members : joined (λ a. g a (bit m a)) w ≡ g j true ++ joined (λ a. g a (bit v a)) w
+  joined_members =
+      joined-lowest (λ a. g a (bit m a)) (λ a. g a (bit v a)) j w (took_lt k)
+      (λ a l. ap (g a) (none_below k a l) ∙ empty a)
+      (λ a l. ap (g a) (gone a l) ∙ empty a)
+      (λ a l. ap (g a) (stays a (λ z. absurd (omega arith))))
+      ∙ ap (λ b. g j b ++ joined (λ a. g a (bit v a)) w) (holds (took_in k))
+    where
+      gone : (a : ℕ) → a < suc j → bit v a ≡ false
+      gone a l =
+          bit-left k a
+          ∙ by_eq a j (λ z. rw (eq-eqb a j z) (and-false (bit m a))) (λ z. ap (λ b. b && not (eqb a j)) (none_below k a (omega arith)))
+
+      stays : (a : ℕ) → ¬ (a ≡ j) → bit v a ≡ bit m a
+      stays a z = bit-left k a ∙ rw (ne_eqb a j z) (and-true (bit m a))
+
+-- No member.
+pub joined_empty : {A : Type 0} (w : ℕ) {m : ℕ} (g : ℕ → Bool → List A) → ((a : ℕ) → g a false ≡ []) → m ≡ 0 → joined (λ a. g a (bit m a)) w ≡ []
+joined_empty w {m} g empty z = joined_none (λ a. g a (bit m a)) w (λ a l. ap (λ x. g a (bit x a)) z ∙ ap (g a) (bit_of_zero a) ∙ empty a)

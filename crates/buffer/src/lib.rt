@@ -1,32 +1,59 @@
-// Bytes put into a buffer one behind another, decimal numbers among them, and the laws of what is stored. It rests on `mask`
-// alone and is for the crates that form bytes. Each function replies the place behind what it put. What lies behind the buffer's end is
-// left out, so the same functions measure a text and write it.
+// Texts put into a buffer piece by piece, decimal numbers among them, and the laws of what is stored. It rests on `mask`
+// alone and is for the crates that form bytes. What lies behind the buffer's end is left out, so the same functions measure a
+// text and write it.
 #![tactic(auto)]
 
-ghost use Rattle.std.specs.Prelude.{◌≡◌, [], ◌∷◌, ◌<◌};
-ghost use Rattle.buffer.specs.Decimal.{decimal};
-ghost use Rattle.buffer.specs.Put.{Put};
-ghost use Rattle.buffer.specs.Decimal.{digit as Decimal·digit};
+ghost use Rattle.std.specs.Prelude.{◌≡◌, ◌<◌, ◌^◌, length, [], ◌∷◌};
+ghost use Rattle.buffer.specs.Decimal.{decimal, digit as Decimal·digit};
 
-// A byte.
-pub fn put_byte(out: &mut [u8], at: usize, b: u8) -> usize
-    ensures { Put out.old at (b ∷ []) result out.new }
-{
-    if at < out.len() {
-        out[at] = b;
-    }
-    at.saturating_add(1)
+// A buffer, and the place behind what was put. The place goes on behind the buffer's end, up to the largest number. That both are
+// numbers of 64 bits is a fact of the type, so that a text to which nothing is put need not be read.
+#[derive(Drop)]
+pub struct Text<'a> {
+    out: &'a mut [u8],
+    pub at: usize,
+    pub ghost small: { length out.now < 2 ^ 64 },
+    pub ghost within: { at < 2 ^ 64 },
 }
 
-// A text.
-pub fn put(out: &mut [u8], at: usize, text: &[u8]) -> usize
-    ensures { Put out.old at text.now result out.new }
-{
-    let mut e = at;
-    for b in text {
-        e = put_byte(out, e, *b);
+impl<'a> Text<'a> {
+    ghost use Rattle.buffer.specs.Put.{Put};
+
+    // From the start of the buffer on.
+    pub fn new(out: &'a mut [u8]) -> Self
+        ensures place { result.at ≡ 0 }
+        ensures buffer { result.out.now ≡ out.old }
+        ensures same { result.out.ghost_name ≡ out.entry.ghost_name }
+    {
+        Text { out, at: 0 }
     }
-    e
+
+    pub fn put_byte(&mut self, b: u8)
+        ensures { Put self.old (b ∷ []) self.new }
+    {
+        if self.at < self.out.len() {
+            self.out[self.at] = b;
+        }
+        self.at = self.at.saturating_add(1);
+    }
+
+    pub fn put(&mut self, text: &[u8])
+        ensures { Put self.old text.now self.new }
+    {
+        for b in text {
+            self.put_byte(*b);
+        }
+    }
+
+    // In decimal: the digits of the tenth, then the last.
+    pub fn put_number(&mut self, x: usize)
+        ensures { Put self.old (decimal x) self.new }
+    {
+        if x > 9 {
+            self.put_number(x / 10);
+        }
+        self.put_byte(digit(x % 10));
+    }
 }
 
 // A digit in ASCII.
@@ -35,16 +62,4 @@ fn digit(d: usize) -> u8
     ensures { result ≡ Decimal·digit d }
 {
     b'0' + d as u8
-}
-
-// A number in decimal: the digits of its tenth, then its last.
-pub fn put_number(out: &mut [u8], at: usize, x: usize) -> usize
-    ensures { Put out.old at (decimal x) result out.new }
-{
-    if x < 10 {
-        put_byte(out, at, digit(x))
-    } else {
-        let e = put_number(out, at, x / 10);
-        put_byte(out, e, digit(x % 10))
-    }
 }

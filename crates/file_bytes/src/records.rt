@@ -5,6 +5,7 @@ ghost use Rattle.buffer.specs.Stored.{stored};
 ghost use Rattle.file_bytes.specs.Bytes.{variable_mark, variable_bytes, variables_bytes, rows_bytes, constraint_bytes, constraints_bytes};
 ghost use Rattle.file_bytes.specs.Bytes.{domain_in, one_in, two_in, row_handed, from};
 
+use crate::Numbers;
 use crate::put::{put_two, put_word};
 use mask::contains;
 
@@ -22,12 +23,16 @@ fn put_variable(buf: &mut [u8], at: usize, universal: bool, domain: u16)
     put_word(buf, at + 2, domain);
 }
 
-pub fn put_variables(buf: &mut [u8], at: usize, n: usize, universal: u64, domains: &[u16])
-    requires { (at + 4 * n ≤ length buf.old) × (n ≤ length domains.now) × (n ≤ 32) × (at ≤ 8) }
-    ensures { buf.new ≡ stored buf.old at (variables_bytes (bit universal) (domain_in domains.now) n) }
-{
-    for k in 0..n {
-        put_variable(buf, at + 4 * k, contains(universal, k), domains[k]);
+impl Numbers {
+    // The records of the variables.
+    pub fn put_variables(self, buf: &mut [u8], at: usize, domains: &[u16])
+        requires { (at + 4 * self.n ≤ length buf.old) × (self.n ≤ length domains.now) }
+        ensures { buf.new ≡ stored buf.old at
+            (variables_bytes (bit self.universal) (domain_in domains.now) self.n) }
+    {
+        for k in 0..self.n {
+            put_variable(buf, at + 4 * k, contains(self.universal, k), domains[k]);
+        }
     }
 }
 
@@ -43,7 +48,7 @@ fn put_rows(buf: &mut [u8], at: usize, xs: &[u16], base: usize)
 
 // Constraint t.
 fn put_constraint(buf: &mut [u8], at: usize, xs: &[u16], t: usize)
-    requires { (at + 36 ≤ length buf.old) × (18 * t + 18 ≤ length xs.now) × (t ≤ 496) }
+    requires { (at + 36 ≤ length buf.old) × (18 * t + 18 ≤ length xs.now) }
     ensures { buf.new ≡ stored buf.old at
         (constraint_bytes (one_in xs.now t) (two_in xs.now t) (row_handed xs.now t)) }
 {
@@ -55,7 +60,7 @@ fn put_constraint(buf: &mut [u8], at: usize, xs: &[u16], t: usize)
 }
 
 pub fn put_constraints(buf: &mut [u8], at: usize, m: usize, xs: &[u16])
-    requires { (at + 36 * m ≤ length buf.old) × (18 * m ≤ length xs.now) × (m ≤ 496) × (at ≤ 200) }
+    requires { (at + 36 * m ≤ length buf.old) × (18 * m ≤ length xs.now) }
     ensures { buf.new ≡ stored buf.old at
         (constraints_bytes (one_in xs.now) (two_in xs.now) (row_handed xs.now) m) }
 {

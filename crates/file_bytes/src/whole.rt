@@ -5,7 +5,7 @@ ghost use Rattle.file_bytes.specs.Bytes.{head_bytes, start_of, bytes_of, length_
 
 use crate::Numbers;
 use crate::put::{put_two, put_word};
-use crate::records::{put_constraints, put_variables};
+use crate::records::put_constraints;
 
 impl Numbers {
     // Where the variables begin.
@@ -49,7 +49,7 @@ impl Numbers {
         let s = self.start();
         let q = s + 4 * self.n;
         self.put_head(buf);
-        put_variables(buf, s, self.n, self.universal, domains);
+        self.put_variables(buf, s, domains);
         put_constraints(buf, q, self.m, constraints);
         put_two(buf, q + 36 * self.m, *b"EN");
     }

@@ -1,34 +1,30 @@
 // Constraints entered one by one, of those from q on. Constraint t of the pair (i, j) has the blocks 2t + 1, from i towards j,
 // and 2t + 2, from j towards i; block 0 serves every pair that no constraint joins.
 ghost use Rattle.std.specs.Prelude.{◌≡◌, ◌<◌};
-ghost use Rattle.file_constraints.specs.Constraints.{constraint_one, constraint_two, Whole, Constraints};
+ghost use Rattle.file_constraints.specs.Constraints.{constraint_one, constraint_two, Constraints};
 ghost use Rattle.file_decoder.specs.Tables.{near_with, index_with, rows_with, near_to, index_to, rows_to, SameVariables};
 
 use crate::rows::{column, put_block};
-use file_constraints::{constraint_one, constraint_row, constraint_two};
+use file_constraints::FileConstraint;
 use mask::single;
 use solver_arrays::Arrays;
 
 // Constraint t: i and j become neighbours, and the pair has its two blocks.
-fn put_constraint(f: &[u8], q: usize, t: usize, arrays: &mut Arrays)
-    requires { Whole f.now q t × (t < 496) × (constraint_one f.now q t < 32) × (constraint_two f.now q t < 32) }
-    ensures near_after { arrays.new.near ≡ near_with arrays.old.near f.now q t }
-    ensures index_after { arrays.new.index ≡ index_with arrays.old.index f.now q t }
-    ensures rows_after { arrays.new.rows ≡ rows_with arrays.old.rows f.now q t }
+fn put_constraint(c: &FileConstraint, arrays: &mut Arrays)
+    requires { (c.now.number < 496) × (constraint_one c.now.file.now c.now.start c.now.number < 32) × (constraint_two c.now.file.now c.now.start c.now.number < 32) }
+    ensures near_after { arrays.new.near ≡ near_with arrays.old.near c.now.file.now c.now.start c.now.number }
+    ensures index_after { arrays.new.index ≡ index_with arrays.old.index c.now.file.now c.now.start c.now.number }
+    ensures rows_after { arrays.new.rows ≡ rows_with arrays.old.rows c.now.file.now c.now.start c.now.number }
     ensures others { SameVariables arrays.old arrays.new }
 {
-    let i = constraint_one(f, q, t);
-    let j = constraint_two(f, q, t);
+    let t = c.number;
+    let (i, j) = c.pair();
     arrays.near[i] |= single::<u32>(j);
     arrays.near[j] |= single::<u32>(i);
     arrays.index[32 * i + j] = (2 * t + 1) as u16;
     arrays.index[32 * j + i] = (2 * t + 2) as u16;
-    put_block(
-        &mut arrays.rows,
-        32 * t + 16,
-        |a| constraint_row(f, q, t, a),
-    );
-    put_block(&mut arrays.rows, 32 * t + 32, |b| column(f, q, t, b));
+    put_block(&mut arrays.rows, 32 * t + 16, |a| c.row(a));
+    put_block(&mut arrays.rows, 32 * t + 32, |b| column(c, b));
 }
 
 // The first m constraints.
@@ -40,6 +36,11 @@ pub fn put_constraints(f: &[u8], q: usize, m: usize, arrays: &mut Arrays)
     ensures others { SameVariables arrays.old arrays.new }
 {
     for t in 0..m {
-        put_constraint(f, q, t, arrays);
+        let c = FileConstraint {
+            file: f,
+            start: q,
+            number: t,
+        };
+        put_constraint(&c, arrays);
     }
 }

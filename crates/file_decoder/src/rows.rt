@@ -1,20 +1,19 @@
-// The rows of constraint t of those from q on, in both directions.
+// The rows of a constraint, in both directions.
 ghost use Rattle.std.specs.Prelude.{◌≡◌, ℕ, ◌+◌, ◌≤◌, ◌<◌};
-ghost use Rattle.file_constraints.specs.Constraints.{Whole};
 ghost use Rattle.file_decoder.specs.Tables.{column_of, put_to, Gives};
 
-use file_constraints::constraint_row;
+use file_constraints::FileConstraint;
 use mask::{contains, single};
 use solver_arrays::ROWS;
 
 // The values of i that go with value b of j.
-pub fn column(f: &[u8], q: usize, t: usize, b: usize) -> u16
-    requires { Whole f.now q t × (b < 16) }
-    ensures { result ≡ column_of f.now q t b }
+pub fn column(c: &FileConstraint, b: usize) -> u16
+    requires { b < 16 }
+    ensures { result ≡ column_of c.now.file.now c.now.start c.now.number b }
 {
     let mut out: u16 = 0;
     for a in 0..16 {
-        if contains(constraint_row(f, q, t, a), b) {
+        if contains(c.row(a), b) {
             out |= single::<u16>(a);
         }
     }

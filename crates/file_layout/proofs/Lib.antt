@@ -1,5 +1,3 @@
--- `all` over a range.
-pub mod Below
 -- Laws of a problem's numbers: counts, pairs and rows.
 pub mod NumberLaws
 -- Laws of marks, of a record's beginning, of where the variables begin and where the file ends.

@@ -3,9 +3,13 @@
 #![tactic(auto)]
 
 mod bytes;
+mod file_record;
 mod numbers;
 mod places;
+mod variables;
 
-pub use bytes::{byte_at, is_marked, opened_at, word_at};
+pub use bytes::{byte_at, word_at};
+pub use file_record::FileRecord;
 pub use numbers::{constraint_fits, counts_fit, in_order, pair_of};
-pub use places::{domain_at, pair_at, rules_at, variables_at};
+pub use places::{rules_at, variables_at};
+pub use variables::Variables;

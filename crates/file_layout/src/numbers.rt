@@ -61,8 +61,10 @@ pub fn constraint_fits<D: Fn(usize) -> u16, R: Fn(usize) -> u16>(
     needed(last < pair_of(i, j), Reason::Order)?;
     let di = domain(i);
     let dj = domain(j);
-    let fits = |a: usize| -> bool
-        requires { (a < 16) × R.pre row a }
-    { row_fits(di, dj, a, row(a)) };
-    needed((0..16).all(fits), Reason::Stray)
+    // Without an early exit the rows are tested side by side.
+    let mut fits = true;
+    for a in 0..16 {
+        fits &= row_fits(di, dj, a, row(a));
+    }
+    needed(fits, Reason::Stray)
 }

@@ -7,8 +7,8 @@ ghost use Rattle.refusal.specs.Told.{replied, listed};
 ghost use Rattle.file_layout.specs.Numbers.{pair_of};
 ghost use Rattle.file_lookup.specs.Lookup.{told, place_to, look_up, rows_at, rows_of};
 
-use file_layout::{byte_at, in_order, pair_at, pair_of, variables_at, word_at};
-use file_reader::check_file;
+use file_layout::{FileRecord, in_order, pair_of, word_at};
+use file_reader::variables_of;
 use refusal::{Reason, Refusal, needed};
 
 // The look-up in a file that is known to be accepted, with m constraints from q: it does not read the file again.
@@ -19,7 +19,8 @@ fn find(f: &[u8], q: usize, m: usize, i: usize, j: usize) -> Option<usize>
     let pair = pair_of(i, j);
     for k in (0..m).rev() {
         let p = q + 36 * k;
-        if pair_at(f, p) == pair {
+        let r = FileRecord { file: f, place: p };
+        if r.pair() == pair {
             return Some(p + 4);
         }
     }
@@ -30,11 +31,10 @@ fn find(f: &[u8], q: usize, m: usize, i: usize, j: usize) -> Option<usize>
 pub fn look_up(f: &[u8], i: usize, j: usize) -> Result<Option<usize>, Refusal>
     ensures { told result ≡ look_up f.now i j }
 {
-    check_file(f)?;
-    let n = byte_at(f, 2);
+    let v = variables_of(f)?;
     let m = word_at(f, 3) as usize;
-    needed(in_order(i, j, n), Reason::Variable)?;
-    Ok(find(f, variables_at(f) + 4 * n, m, i, j))
+    needed(in_order(i, j, v.n), Reason::Variable)?;
+    Ok(find(f, v.end(), m, i, j))
 }
 
 // The 32 bytes at p, or the empty part where the file has not so many.

@@ -1,6 +1,6 @@
 // The reader of problem files (document 01, "The job file"). It takes exactly the files of the layout and tells a refused one's number
-// and place. It rests on `file_records` and `file_layout`. `read` is open to callers; `check_file` is for `file_lookup`, `rules_used`
-// for `host` and `reporting`.
+// and place. It rests on `file_records` and `file_layout`. `read` is open to callers; `variables_of` is for `file_lookup`,
+// `rules_used` for `host` and `reporting`.
 #![tactic(auto)]
 
 ghost use Rattle.std.specs.Prelude.{◌≡◌};
@@ -10,11 +10,11 @@ mod used;
 mod values;
 mod whole;
 
-use file_layout::{byte_at, rules_at, variables_at, word_at};
+use file_layout::{rules_at, word_at};
 use refusal::Fault;
 pub use used::rules_used;
 use values::{domains, universal_bits};
-pub use whole::check_file;
+pub use whole::variables_of;
 
 // The numbers of an accepted file: variables and constraints, the rule set or none, the universal variables as bits.
 #[derive(Clone, Copy)]
@@ -36,17 +36,15 @@ pub struct Reading {
 pub fn read(f: &[u8]) -> Result<Reading, Fault>
     ensures { (told result ≡ header_of f.now) × (domains_shown result ≡ domains_of f.now) }
 {
-    check_file(f)?;
-    let b = variables_at(f);
-    let n = byte_at(f, 2);
+    let v = variables_of(f)?;
     let head = Head {
-        n: f[2],
+        n: v.n as u8,
         m: word_at(f, 3),
         rules: rules_at(f),
-        universal: universal_bits(f, b, n),
+        universal: universal_bits(&v),
     };
     Ok(Reading {
-        head: head,
-        domains: domains(f, b, n),
+        head,
+        domains: domains(&v),
     })
 }

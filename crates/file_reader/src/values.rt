@@ -1,30 +1,28 @@
-// What the variables of a file say: domains and universal bits. Variables begin at b.
-ghost use Rattle.std.specs.Prelude.{◌≡◌, ◌+◌, ◌*◌, ◌≤◌, length};
+// What the variables of a file say: domains and universal bits.
+ghost use Rattle.std.specs.Prelude.{◌≡◌};
 ghost use Rattle.file_reader.specs.Reading.{domains_to, universal_bits};
 
-use file_layout::{domain_at, is_marked};
+use file_layout::Variables;
 use mask::single;
 
-// The n domains, and zero behind them.
-pub fn domains(f: &[u8], b: usize, n: usize) -> [u16; 32]
-    requires { (b + 4 * n ≤ length f.now) × (n ≤ 32) × (b ≤ 8) }
-    ensures { result ≡ domains_to f.now b n }
+// The domains, and zero behind them.
+pub fn domains(v: &Variables) -> [u16; 32]
+    ensures { result ≡ domains_to v.now.file.now v.now.start v.now.n }
 {
     let mut out = [0u16; 32];
-    for k in 0..n {
-        out[k] = domain_at(f, b, k);
+    for k in 0..v.n {
+        out[k] = v.domain(k);
     }
     out
 }
 
 // The universal variables as bits.
-pub fn universal_bits(f: &[u8], b: usize, n: usize) -> u32
-    requires { (n ≤ 32) × (b ≤ 8) }
-    ensures { result ≡ universal_bits f.now b n }
+pub fn universal_bits(v: &Variables) -> u32
+    ensures { result ≡ universal_bits v.now.file.now v.now.start v.now.n }
 {
     let mut out: u32 = 0;
-    for k in 0..n {
-        if is_marked(f, b + 4 * k, b"VA") {
+    for k in 0..v.n {
+        if v.is_universal(k) {
             out |= single::<u32>(k);
         }
     }

@@ -1,31 +1,38 @@
 // The whole file: its records one behind another.
-ghost use Rattle.std.specs.Prelude.{◌≡◌};
+ghost use Rattle.std.specs.Prelude.{◌≡◌, IfOk};
 ghost use Rattle.refusal.specs.Chain.{Fine};
 ghost use Rattle.file_records.specs.Records.{qp_test, rest_test, verdict_of};
+ghost use Rattle.file_records.specs.Tested.{tested, VariablesOf};
 
-use file_layout::{byte_at, variables_at, word_at};
+use file_layout::{FileRecord, Variables, word_at};
 use file_records::{constraints_test, en_test, qp_test, rs_test, variables_test};
 use refusal::Fault;
 
 // The records behind a QP that is fine, but for RS.
-fn rest_test(f: &[u8]) -> Result<(), Fault>
+fn rest_test<'a>(f: &'a [u8]) -> Result<Variables<'a>, Fault>
     requires { qp_test f.now ≡ Fine }
-    ensures { result ≡ rest_test f.now }
+    ensures verdict { tested result ≡ rest_test f.now }
+    ensures shows { IfOk result (VariablesOf f.now) }
 {
-    let b = variables_at(f);
-    let n = byte_at(f, 2);
+    let v = variables_test(f)?;
     let m = word_at(f, 3) as usize;
-    variables_test(f, b, n)?;
-    let q = b + 4 * n;
-    constraints_test(f, b, n, q, m)?;
-    en_test(f, q + 36 * m)
+    constraints_test(&v, m)?;
+    let end = FileRecord {
+        file: f,
+        place: v.end() + 36 * m,
+    };
+    en_test(&end)?;
+    Ok(v)
 }
 
-// Whether the file is accepted, and else why not and where. For file_lookup too.
-pub fn check_file(f: &[u8]) -> Result<(), Fault>
-    ensures { result ≡ verdict_of f.now }
+// The variables of an accepted file, and else why it is refused and where. For file_lookup too.
+pub fn variables_of<'a>(f: &'a [u8]) -> Result<Variables<'a>, Fault>
+    ensures verdict { tested result ≡ verdict_of f.now }
+    ensures shows { IfOk result (VariablesOf f.now) }
 {
     qp_test(f)?;
     let rules = rs_test(f);
-    rules.and(rest_test(f))
+    let rest = rest_test(f);
+    // `and`, so that an edit that exchanges the tests is refused for the fact.
+    rules.and(rest)
 }

@@ -2,3 +2,5 @@
 
 -- The records one by one, each with its tests in the order in which they decide; then the whole file.
 pub mod Records
+-- What the test of the variables hands out.
+pub mod Tested

@@ -1,14 +1,14 @@
 // The record EN, behind which nothing stands.
-ghost use Rattle.std.specs.Prelude.{◌≡◌, ◌≤◌};
+ghost use Rattle.std.specs.Prelude.{◌≡◌};
 ghost use Rattle.file_records.specs.Records.{en_test};
 
-use file_layout::{is_marked, opened_at};
+use file_layout::FileRecord;
 use refusal::{Fault, Reason, needed};
 
-pub fn en_test(f: &[u8], p: usize) -> Result<(), Fault>
-    requires { p ≤ 65535 }
-    ensures { result ≡ en_test f.now p }
+pub fn en_test(r: &FileRecord) -> Result<(), Fault>
+    ensures { result ≡ en_test r.now.file.now r.now.place }
 {
-    opened_at(f, p, is_marked(f, p, b"EN"), 0)?;
-    needed(f.len() <= p + 2, Reason::Tail.at(p + 2))
+    r.opened(r.is_marked(b"EN"), 0)?;
+    let next = r.place + 2;
+    needed(r.file.len() <= next, Reason::Tail.at(next))
 }

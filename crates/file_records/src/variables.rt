@@ -1,33 +1,41 @@
-// The records VE and VA. Variables begin at b.
-ghost use Rattle.std.specs.Prelude.{◌≡◌, ◌≤◌, ◌||◌};
-ghost use Rattle.file_layout.specs.Layout.{marked, VE, VA};
-ghost use Rattle.file_records.specs.Records.{variable_test, variables_test};
+// The records VE and VA.
+ghost use Rattle.std.specs.Prelude.{◌≡◌, ◌||◌, IfOk};
+ghost use Rattle.refusal.specs.Chain.{Fine};
+ghost use Rattle.file_layout.specs.Layout.{marked, VE, VA, n_of, variables_at};
+ghost use Rattle.file_records.specs.Records.{qp_test, variable_test, variables_test};
+ghost use Rattle.file_records.specs.Tested.{tested, VariablesOf};
 
-use file_layout::{is_marked, opened_at, word_at};
+use file_layout::{FileRecord, Variables, byte_at, variables_at};
 use refusal::{Fault, Reason, needed};
 
-// Whether the mark of a variable stands at p.
-fn marks_variable(f: &[u8], p: usize) -> bool
-    requires { p ≤ 65535 }
-    ensures { result ≡ (marked f.now p VE || marked f.now p VA) }
+// Whether it has the mark of a variable.
+fn marks_variable(r: &FileRecord) -> bool
+    ensures { result ≡ (marked r.now.file.now r.now.place VE || marked r.now.file.now r.now.place VA) }
 {
-    is_marked(f, p, b"VE") || is_marked(f, p, b"VA")
+    r.is_marked(b"VE") || r.is_marked(b"VA")
 }
 
-fn variable_test(f: &[u8], p: usize) -> Result<(), Fault>
-    requires { p ≤ 65535 }
-    ensures { result ≡ variable_test f.now p }
+fn variable_test(r: &FileRecord) -> Result<(), Fault>
+    ensures { result ≡ variable_test r.now.file.now r.now.place }
 {
-    opened_at(f, p, marks_variable(f, p), 2)?;
-    needed(word_at(f, p + 2) != 0, Reason::Domain.at(p))
+    r.opened(marks_variable(r), 2)?;
+    needed(r.word(2) != 0, Reason::Domain.at(r.place))
 }
 
-pub fn variables_test(f: &[u8], b: usize, n: usize) -> Result<(), Fault>
-    requires { (b ≤ 8) × (n ≤ 32) }
-    ensures { result ≡ variables_test f.now b n }
+// The variables of a file whose QP is fine, where each is.
+pub fn variables_test<'a>(f: &'a [u8]) -> Result<Variables<'a>, Fault>
+    requires { qp_test f.now ≡ Fine }
+    ensures verdict { tested result ≡ variables_test f.now (variables_at f.now) (n_of f.now) }
+    ensures shows { IfOk result (VariablesOf f.now) }
 {
+    let start = variables_at(f);
+    let n = byte_at(f, 2);
     for k in 0..n {
-        variable_test(f, b + 4 * k)?;
+        let r = FileRecord {
+            file: f,
+            place: start + 4 * k,
+        };
+        variable_test(&r)?;
     }
-    Ok(())
+    Ok(Variables { file: f, start, n })
 }

@@ -1,5 +1,5 @@
 // The writer's tests, all made before anything is written.
-ghost use Rattle.std.specs.Prelude.{◌≡◌, ◌*◌, ◌^◌, ◌≤◌, ltb, length};
+ghost use Rattle.std.specs.Prelude.{◌≡◌, ◌^◌, ◌≤◌, true, ltb, length};
 ghost use Rattle.file_bytes.specs.Bytes.{domain_in, handed_with, Sized};
 ghost use Rattle.file_writer.specs.Tests.{lists_fit, rules_fit, domains_fit, constraints_test, rest_test};
 
@@ -25,31 +25,29 @@ fn rules_fit(rules: Option<u8>) -> bool
 }
 
 // No universal bit at n or above.
-fn universal_fits(universal: u64, n: usize) -> bool
-    requires { n ≤ 32 }
-    ensures { result ≡ ltb universal (2 ^ n) }
+fn universal_fits(x: Numbers) -> bool
+    ensures { result ≡ ltb x.universal (2 ^ x.n) }
 {
-    universal < 1 << n
+    x.universal < 1 << x.n
 }
 
 // No domain is empty.
-fn domains_fit(domains: &[u16], n: usize) -> bool
-    requires { n ≤ length domains.now }
-    ensures { result ≡ domains_fit (domain_in domains.now) n }
+fn domains_fit(domains: &[u16]) -> bool
+    ensures { result ≡ domains_fit (domain_in domains.now) (length domains.now) }
 {
-    (0..n).all(|i| domains[i] != 0)
+    domains.iter().all(|d| *d != 0)
 }
 
 // Each constraint, behind the one before it.
-fn constraints_test(domains: &[u16], n: usize, xs: &[u16], m: usize) -> Result<(), Reason>
-    requires { (n ≤ length domains.now) × (n ≤ 32) × (18 * m ≤ length xs.now) × (m ≤ 496) }
-    ensures { result ≡ constraints_test (domain_in domains.now) n xs.now m }
+fn constraints_test(x: Numbers, domains: &[u16], xs: &[u16]) -> Result<(), Reason>
+    requires { Sized (handed_with x domains.now xs.now) }
+    ensures { result ≡ constraints_test (domain_in domains.now) x.n xs.now x.m }
 {
     let mut last = 0;
-    for t in 0..m {
+    for t in 0..x.m {
         let i = xs[18 * t] as usize;
         let j = xs[18 * t + 1] as usize;
-        constraint_fits(|v| domains[v], n, last, i, j, |a| xs[18 * t + 2 + a])?;
+        constraint_fits(|v| domains[v], x.n, last, i, j, |a| xs[18 * t + 2 + a])?;
         last = pair_of(i, j);
     }
     Ok(())
@@ -62,12 +60,12 @@ pub fn rest_test(
     constraints: &[u16],
     room: usize,
 ) -> Result<(), Reason>
-    requires { Sized (handed_with x domains.now constraints.now) }
+    requires { lists_fit x.n x.m (length domains.now) (length constraints.now) ≡ true }
     ensures { result ≡ rest_test (handed_with x domains.now constraints.now) room }
 {
     needed(rules_fit(x.rules), Reason::Rules)?;
-    needed(universal_fits(x.universal, x.n), Reason::Variable)?;
-    needed(domains_fit(domains, x.n), Reason::Domain)?;
-    constraints_test(domains, x.n, constraints, x.m)?;
+    needed(universal_fits(x), Reason::Variable)?;
+    needed(domains_fit(domains), Reason::Domain)?;
+    constraints_test(x, domains, constraints)?;
     needed(x.length() <= room, Reason::Room)
 }

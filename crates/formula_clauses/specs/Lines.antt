@@ -1,11 +1,18 @@
 -- Clauses put into a buffer one behind another, and counted.
-use Rattle.std.specs.Prelude.{ℕ, ◌+◌, min, ◌≡◌, List, length}
+use Rattle.std.specs.Prelude.{◌+◌, min, ◌≡◌, List, length}
 use Rattle.buffer.specs.Put.{largest, Put}
 use Rattle.formula.specs.Formula.{Literal}
-use Rattle.formula.specs.Text.{clauses_text}
-use Rattle.formula_clauses.specs.declared.Spot.{Spot}
+use Rattle.formula.specs.Text.{line_end, clauses_text}
+use Rattle.formula_clauses.specs.declared.Clauses.{Clauses}
 
--- The clauses cs were put into l from s on, which leads to r; l' is the buffer afterwards.
-pub record Lines (l : List ℕ) (s : Spot) (cs : List (List Literal)) (r : Spot) (l' : List ℕ) : Type 0 where
-  pub text : Put l s.at (clauses_text cs) r.at l'
-  pub count : r.clauses ≡ min largest (s.clauses + length cs)
+-- The clauses cs were put into s, and r is what s is afterwards.
+pub record Lines (s : Clauses) (cs : List (List Literal)) (r : Clauses) : Type 0 where
+  pub text : Put s.text.now (clauses_text cs) r.text.now
+  pub same : r.text.ghost_name ≡ s.text.ghost_name
+  pub count : r.count ≡ min largest (s.count + length cs)
+
+-- A clause of s was ended and counted, and r is what s is afterwards.
+pub record Ended (s r : Clauses) : Type 0 where
+  pub text : Put s.text.now line_end r.text.now
+  pub same : r.text.ghost_name ≡ s.text.ghost_name
+  pub count : r.count ≡ min largest (s.count + 1)

@@ -1,35 +1,13 @@
 // The clauses of the constraints, ascending by their pairs.
 ghost use Rattle.std.specs.Prelude.{◌≡◌, ◌&&◌, ◌<◌, ltb, get_or};
 ghost use Rattle.mask.specs.Mask.{bit};
-ghost use Rattle.formula_words.specs.Coding.{Bounded};
 ghost use Rattle.formula_clauses.specs.Lines.{Lines};
 ghost use Rattle.formula_clauses.specs.Clauses.{constraint_of, pair_of, later_of, constraints_of};
 
-use crate::Spot;
-use crate::clash::put_value;
-use formula_words::{Coded, coding_of};
-use mask::contains;
+use crate::Clauses;
+use formula_words::{Coded, coding_of, place_of};
+use mask::{contains, difference, members_of};
 use solver_arrays::Arrays;
-
-// The clashes of the constraint of i, coded x, and j, coded y.
-fn put_constraint(
-    out: &mut [u8],
-    s: Spot,
-    arrays: &Arrays,
-    i: usize,
-    x: Coded,
-    j: usize,
-    y: Coded,
-) -> Spot
-    requires { (i < 32) × Bounded x × (j < 32) × Bounded y }
-    ensures { Lines out.old s (constraint_of arrays.now i x j y) result out.new }
-{
-    let mut r = s;
-    for a in 0..16 {
-        r = put_value(out, r, x, a, y, arrays.row(i, a, j));
-    }
-    r
-}
 
 // Whether i comes before j and a constraint joins them.
 fn is_pair(arrays: &Arrays, i: usize, j: usize) -> bool
@@ -39,38 +17,45 @@ fn is_pair(arrays: &Arrays, i: usize, j: usize) -> bool
     i < j && contains(arrays.near[i], j)
 }
 
-// The clashes of i and j, if i comes before j and a constraint joins them.
-fn put_pair(out: &mut [u8], s: Spot, arrays: &Arrays, i: usize, j: usize) -> Spot
-    requires { (i < 32) × (j < 32) }
-    ensures { Lines out.old s (pair_of arrays.now i j) result out.new }
-{
-    if is_pair(arrays, i, j) {
-        let x = coding_of(arrays, i);
-        let y = coding_of(arrays, j);
-        put_constraint(out, s, arrays, i, x, j, y)
-    } else {
-        s
+impl<'a, 'b> Clauses<'a, 'b> {
+    // The clashes of the constraint of i, coded x, and j, coded y.
+    fn put_constraint(&mut self, arrays: &Arrays, i: usize, x: Coded, j: usize, y: Coded)
+        requires { (i < 32) × (j < 32) }
+        ensures { Lines self.old (constraint_of arrays.now i x j y) self.new }
+    {
+        for a in members_of(x.domain) {
+            let bad = difference(y.domain, arrays.row(i, a, j));
+            self.put_row(x, place_of(x.domain, a), y, bad);
+        }
     }
-}
 
-// The constraints of i with later variables.
-fn put_later(out: &mut [u8], s: Spot, arrays: &Arrays, i: usize) -> Spot
-    requires { i < 32 }
-    ensures { Lines out.old s (later_of arrays.now i) result out.new }
-{
-    let mut r = s;
-    for j in 0..arrays.n {
-        r = put_pair(out, r, arrays, i, j);
+    // The clashes of i and j, if i comes before j and a constraint joins them.
+    fn put_pair(&mut self, arrays: &Arrays, i: usize, j: usize)
+        requires { (i < 32) × (j < 32) }
+        ensures { Lines self.old (pair_of arrays.now i j) self.new }
+    {
+        if is_pair(arrays, i, j) {
+            let x = coding_of(arrays, i);
+            let y = coding_of(arrays, j);
+            self.put_constraint(arrays, i, x, j, y);
+        }
     }
-    r
-}
 
-pub fn put_constraints(out: &mut [u8], s: Spot, arrays: &Arrays) -> Spot
-    ensures { Lines out.old s (constraints_of arrays.now) result out.new }
-{
-    let mut r = s;
-    for i in 0..arrays.n {
-        r = put_later(out, r, arrays, i);
+    // The constraints of i with later variables.
+    fn put_later(&mut self, arrays: &Arrays, i: usize)
+        requires { i < 32 }
+        ensures { Lines self.old (later_of arrays.now i) self.new }
+    {
+        for j in 0..arrays.n {
+            self.put_pair(arrays, i, j);
+        }
     }
-    r
+
+    pub fn put_constraints(&mut self, arrays: &Arrays)
+        ensures { Lines self.old (constraints_of arrays.now) self.new }
+    {
+        for i in 0..arrays.n {
+            self.put_later(arrays, i);
+        }
+    }
 }

@@ -1,17 +1,32 @@
 // The clauses of a problem's formula, put into a buffer as far as it reaches, and counted. It works on the decoded arrays. It rests on
-// `formula_words`, `solver_arrays` and `buffer`. `Spot`, `put_some`, `put_existentials` and `put_constraints` are for `formula_text`.
+// `formula_words`, `solver_arrays` and `buffer`. `Clauses` is for `formula_text`.
 #![tactic(auto)]
+
+ghost use Rattle.std.specs.Prelude.{◌<◌, ◌^◌};
 
 mod clash;
 mod constraints;
 mod existentials;
 
-pub use constraints::put_constraints;
-pub use existentials::{put_existentials, put_some};
+use buffer::Text;
+use formula_words::put_end;
 
-// How far a text has come: the place behind it, and how many clauses it has.
-#[derive(Clone, Copy)]
-pub struct Spot {
-    pub at: usize,
-    pub clauses: usize,
+// A text, and how many clauses it has so far. They are counted up to the largest number.
+#[derive(Drop)]
+pub struct Clauses<'a, 'b> {
+    pub text: &'b mut Text<'a>,
+    pub count: usize,
+    pub ghost within: { count < 2 ^ 64 },
+}
+
+impl<'a, 'b> Clauses<'a, 'b> {
+    ghost use Rattle.formula_clauses.specs.Lines.{Ended};
+
+    // The end of a clause.
+    fn end(&mut self)
+        ensures { Ended self.old self.new }
+    {
+        put_end(self.text);
+        self.count = self.count.saturating_add(1);
+    }
 }

@@ -38,14 +38,14 @@ use Rattle.formula_theory.proofs.Printed.{formula_plain, formula_read_back}
 use Rattle.formula_theory.proofs.OrderLaws.{formula_ordered}
 use Rattle.formula_theory.proofs.PrefixLaws.{booleans_most}
 use Rattle.formula_theory.proofs.CountLaws.{clauses_most}
-use Rattle.formula_text.specs.Written.{text_for, Printable, Measures, Prints}
+use Rattle.formula_text.specs.Written.{text_for, Measures, Prints}
 use Rattle.formula_judge.specs.Judgeable.{Judgeable}
-use Rattle.formula_clauses.specs.declared.Spot.{Spot}
+use Rattle.formula_text.specs.declared.Size.{Size}
 use Rattle.formula_entries.specs.Told.{length_values, text_test, formula_test, formula_reply, formula_buffer, judge_formula_reply, Writes, formula_told, judge_formula_told, formula_left}
 
 -- ---- over the arrays
 
-module _ (A : Arrays) (buf : List ℕ) (s : Spot) (m : Measures A s) (t : Test) (e : t ≡ text_test s.at (length buf)) where
+module _ (A : Arrays) (buf : List ℕ) (s : Size) (m : Measures A s) (t : Test) (e : t ≡ text_test s.length (length buf)) where
   test_is : (P : Problem) → Poses P A → t ≡ formula_test P (length buf)
   unfolding formula_test
   test_is P p = e ∙ ap (λ (k : ℕ). text_test k (length buf)) (m P p).0
@@ -54,7 +54,7 @@ module _ (A : Arrays) (buf : List ℕ) (s : Spot) (m : Measures A s) (t : Test) 
   unfolding formula_reply formula_buffer
   short_writes r q z = λ P p. (ap (told_by length_values reason_told) z ∙ reply_refused _ _ (test_is P p) q, list_refused _ _ _ (test_is P p) q)
 
-  pub long_writes : {u : Unit {0}} (buf' : List ℕ) → t ≡ Ok u → Prints A s.clauses buf buf' → Writes A buf buf' (Ok s.at)
+  pub long_writes : {u : Unit {0}} (buf' : List ℕ) → t ≡ Ok u → Prints A s.clauses buf buf' → Writes A buf buf' (Ok s.length)
   unfolding formula_reply formula_buffer
   long_writes buf' q w = λ P p. (reply_told _ _ (test_is P p) q (ap length_values (m P p).0), list_left _ _ _ (test_is P p) q (w P p (m P p).1))
 
@@ -70,10 +70,6 @@ module _ (f : List ℕ) (e : Fault) (q : verdict_of f ≡ Err e) where
   refused-left buf = sym (read_refused f _ _ e q)
 
 module _ (f : List ℕ) (A : Arrays) (g : FileGiven f A) where
-  -- What the arrays of an accepted file need to be printed.
-  pub printable : Printable A
-  printable = let h = variables-some f g.fine in record { some = omega (arith, h, g.size, A.first) }
-
   pub file_writes : (buf buf' : List ℕ) (r : Result ℕ Reason) → Writes A buf buf' r → (told_by length_values reason_told r ≡ formula_told f (length buf)) × (buf' ≡ formula_left f buf)
   unfolding formula_told formula_left
   file_writes buf buf' r w =

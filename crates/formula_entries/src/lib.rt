@@ -3,7 +3,6 @@
 #![tactic(auto)]
 
 ghost use Rattle.std.specs.Prelude.{◌≡◌, length};
-ghost use Rattle.formula_text.specs.Written.{Printable};
 ghost use Rattle.formula_entries.specs.Told.{told, formula_told, formula_left, Writes, told_judged, judge_formula_told};
 
 use file_decoder::decode;
@@ -13,7 +12,7 @@ use refusal::{Reason, Refusal, needed};
 use solver_arrays::Arrays;
 
 // Whether the formula is won, and the length of its text.
-#[derive(Clone, Copy)]
+#[derive(Clone, Copy, Default)]
 pub struct JudgedFormula {
     pub won: bool,
     pub length: usize,
@@ -21,13 +20,12 @@ pub struct JudgedFormula {
 
 // Writes the text of the formula of the problem that the arrays state; 12.
 fn write_in(arrays: &Arrays, buf: &mut [u8]) -> Result<usize, Reason>
-    requires { Printable arrays.now }
     ensures { Writes arrays.now buf.old buf.new result }
 {
-    let s = measure(arrays);
-    needed(s.at <= buf.len(), Reason::Room)?;
-    put_formula(buf, arrays, s.clauses);
-    Ok(s.at)
+    let size = measure(arrays);
+    needed(size.length <= buf.len(), Reason::Room)?;
+    put_formula(buf, arrays, size.clauses);
+    Ok(size.length)
 }
 
 // Writes the text of the problem's formula at the front of buf, and tells its length.
@@ -44,10 +42,7 @@ pub fn judge_formula(f: &[u8], buf: &mut [u8]) -> Result<JudgedFormula, Refusal>
     ensures result_value { told_judged result ≡ judge_formula_told f.now (length buf.old) }
     ensures buf_after { buf.new ≡ formula_left f.now buf.old }
 {
-    let k = write_formula(f, buf)?;
-    let won = judge_text(&buf[..k]);
-    Ok(JudgedFormula {
-        won: won,
-        length: k,
-    })
+    let length = write_formula(f, buf)?;
+    let won = judge_text(&buf[..length]);
+    Ok(JudgedFormula { won, length })
 }

@@ -69,9 +69,6 @@ pub record Gone {A : Type 0} (f : A → List Literal → A) (t : List ℕ) (most
   pub gives : f a [] ≡ f start (literals_at t most p)
 
 module _ {A : Type 0} {f : A → List Literal → A} {t : List ℕ} {most p : ℕ} {start : A} where
-  pub going_start : Going f t most p start t most p start
-  going_start = record { near = omega arith; ends = refl; gives = refl }
-
   module _ {t' t'' : List ℕ} {m' p' m'' p'' : ℕ} {a : A} (g : Going f t most p start t' m' p' a) where
     pub going_next : {x : Read} (b : A) → Reads t' m' p' (Some x) t'' m'' p'' → ((l : Literal) (ls : List Literal) → l.boolean ≡ x.boolean → f a (l ∷ ls) ≡ f b ls)
         → Going f t most p start t'' m'' p'' b

@@ -7,7 +7,7 @@ use lib.Dec.{leb}
 use lib.ListN.{get_or}
 use borrow.Author.Count.{below_none, below_more}
 use borrow.Author.Tests.{leb-true}
-use native.Mathlib.Nat.{pow-suc, pow-le-pow_right}
+use native.Mathlib.Nat.{pow-suc}
 use native.Mathlib.Numerals.{add-one}
 use native.Mathlib.Omega.{arith}
 use Rattle.mask.proofs.Logic.{true_holds, holds, and_out}
@@ -27,9 +27,6 @@ digit_range b e = let r = and_out (leb 48 b) (leb b 57) (true_holds e) in (leb-t
 pub passed_none : (t : List ℕ) (p : ℕ) → Passed t p 0 0
 unfolding value_to
 passed_none t p = record { digits = below_none _; sum = refl; small = omega arith }
-
-pub passed-fits : {t : List ℕ} {p k x : ℕ} → Passed t p k x → k ≤ 9 → x < 10 ^ 9
-passed-fits {k} {x} r h = let m : 10 ^ k ≤ 10 ^ 9 = pow-le-pow_right {n = 10} (omega arith) h in let s = r.small in omega arith
 
 pub passed_more : {t : List ℕ} {p k x b : ℕ} → Passed t p k x → b ≡ get_or t (p + k) 0 → is_digit b ≡ true → Passed t p (k + 1) (10 * x + (b - 48))
 unfolding value_to

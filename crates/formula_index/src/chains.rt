@@ -20,6 +20,7 @@ fn clause_at(t: &[u8], p: usize, most: usize) -> Clause
 {
     let mut line = Line::at(t, p, most);
     let mut last = 0;
+    // Not `for x in &mut line`: behind that loop nothing is known of the place.
     while let Some(x) = line.next() {
         last = x.boolean;
     }

@@ -1,5 +1,5 @@
 -- One call of the judge: boolean v tried with a value, and the reply from its two values.
-use mathlib.Core.Path.{◌≡◌, refl, sym, ap, ◌∙◌}
+use mathlib.Core.Path.{◌≡◌, refl, sym, ◌∙◌}
 use mathlib.Core.Bool.{Bool, true, false, beq, cond, not, ◌&&◌, ◌||◌}
 use mathlib.Core.List.{List, [], ◌∷◌}
 use Prim.Native.Nat.{ℕ, suc, ◌+◌, ◌-◌, ◌%◌, ◌≤◌, ◌<◌}
@@ -21,18 +21,18 @@ use Rattle.formula_judge.proofs.JudgeLaws.{assign-agree, last_most, last-agree, 
 -- ---- values
 
 -- Booleans up to 512 have the values at their own places.
-pub value_same : (l l' : List ℕ) (b : ℕ) → b ≤ 512 → get_or l b 0 ≡ get_or l' b 0 → values_in l b ≡ values_in l' b
+pub value_same : (l l' : List Bool) (b : ℕ) → b ≤ 512 → get_or l b false ≡ get_or l' b false → values_in l b ≡ values_in l' b
 unfolding values_in
-value_same l l' b h e = let m : b % 513 ≡ b = mod-eq_of_lt (omega arith) in rw m (ap (λ (x : ℕ). eqb x 1) e)
+value_same l l' b h e = let m : b % 513 ≡ b = mod-eq_of_lt (omega arith) in rw m e
 
 -- Storing a value assigns it.
-pub value_set : (l : List ℕ) (v x : ℕ) → length l ≡ 513 → v ≤ 512 → (b : ℕ) → b ≤ 512 → values_in (set l v x) b ≡ assign (values_in l) v (eqb x 1) b
+pub value_set : (l : List Bool) (v : ℕ) (x : Bool) → length l ≡ 513 → v ≤ 512 → (b : ℕ) → b ≤ 512 → values_in (set l v x) b ≡ assign (values_in l) v x b
 unfolding values_in
 value_set l v x e h b k =
     let m : b % 513 ≡ b = mod-eq_of_lt (omega arith) in
     by_eq b v
-    (λ z. rw m (rw z (ap (λ (y : ℕ). eqb y 1) (get_or-set_same l v x 0 (omega arith)) ∙ sym (assign_at (values_in l) v (eqb x 1)))))
-    (λ z. rw m (ap (λ (y : ℕ). eqb y 1) (get_or-set_other l v b x 0 z)) ∙ sym (assign_off (values_in l) v (eqb x 1) b z))
+    (λ z. rw m (rw z (get_or-set_same l v x false (omega arith) ∙ sym (assign_at (values_in l) v x))))
+    (λ z. rw m (get_or-set_other l v b x false z) ∙ sym (assign_off (values_in l) v x b z))
 
 -- The reply of a turn of side u, from the verdicts x and y of its values: the first where it decides, else the second.
 first_decides : (u r x y : Bool) → r ≡ x → not (beq r u) ≡ true → r ≡ cond u (x && y) (x || y)
@@ -49,24 +49,24 @@ second_decides false false r x y e q h = rw (← e) h
 
 -- ---- a call
 
-module _ (t start next head sides : List ℕ) (count : ℕ) where
+module _ (t start next head : List ℕ) (sides : List Bool) (count : ℕ) where
   -- The clauses, and the sides of booleans.
   abbrev clause : ℕ → List Literal
   clause = clause_at t start (suc count)
 
   abbrev side : ℕ → Bool
-  side b = eqb (get_or sides b 0) 1
+  side b = get_or sides b false
 
   module _ {last : ℕ → ℕ} {c : ℕ} (F : Formed t start next head sides count last c) where
     -- What holds with a last boolean below v holds under any values that are the same below v.
-    settled_same : (v : ℕ) (l l' : List ℕ) → v ≤ 513 → ((b : ℕ) → b < v → get_or l' b 0 ≡ get_or l b 0)
+    settled_same : (v : ℕ) (l l' : List Bool) → v ≤ 513 → ((b : ℕ) → b < v → get_or l' b false ≡ get_or l b false)
         → SettledTo t start next head sides count last c v l → SettledTo t start next head sides count last c v l'
     settled_same v l l' h e S k m n =
         rw (last-agree (values_in l') (values_in l) count (last k) (clause k) (F.ascends k m) (let z = F.ends k m in omega arith)
         (λ b i. value_same l' l b (omega arith) (e b (omega arith)))) (S k m n)
 
     -- With those whose last boolean is v all up to v hold.
-    settled_more : (v : ℕ) (l : List ℕ) → SettledTo t start next head sides count last c v l → T (hold_at t start (suc count) last c v l)
+    settled_more : (v : ℕ) (l : List Bool) → SettledTo t start next head sides count last c v l → T (hold_at t start (suc count) last c v l)
         → SettledTo t start next head sides count last c (suc v) l
     unfolding hold_at
     settled_more v l S d k m n =
@@ -75,7 +75,7 @@ module _ (t start next head sides : List ℕ) (count : ℕ) where
         (λ e. S k m (omega arith))
 
     -- A branch that is won leaves none of them false.
-    won_at : (left v : ℕ) (l : List ℕ) → T (judged (joined (λ k. clause k ∷ []) c) (ranked side left (suc v)) (values_in l))
+    won_at : (left v : ℕ) (l : List Bool) → T (judged (joined (λ k. clause k ∷ []) c) (ranked side left (suc v)) (values_in l))
         → T (hold_at t start (suc count) last c v l)
     unfolding hold_at
     won_at left v l w =
@@ -83,18 +83,18 @@ module _ (t start next head sides : List ℕ) (count : ℕ) where
         (λ k m n. won_holds clause side c count left v (values_in l) w k m (F.ascends k m) (let z = F.ends k m in let y = eqb→eq (last k) v n in omega arith))
 
   -- What a call knows behind trying value x for boolean v with `left` to come: the values left, and the verdict.
-  pub record Tried (left v x : ℕ) (values values' : List ℕ) (r : Bool) : Type 0 where
+  pub record Tried (left v : ℕ) (x : Bool) (values values' : List Bool) (r : Bool) : Type 0 where
     pub size : length values' ≡ 513
-    pub kept : (b : ℕ) → b < v → get_or values' b 0 ≡ get_or values b 0
+    pub kept : (b : ℕ) → b < v → get_or values' b false ≡ get_or values b false
     pub verdict : (last : ℕ → ℕ) (c : ℕ) → Formed t start next head sides count last c → SettledTo t start next head sides count last c v values
-        → r ≡ judged (joined (λ k. clause k ∷ []) c) (ranked side left (suc v)) (assign (values_in values) v (eqb x 1))
+        → r ≡ judged (joined (λ k. clause k ∷ []) c) (ranked side left (suc v)) (assign (values_in values) v x)
 
-  module _ (left v x : ℕ) (l l₁ : List ℕ) (size : length l ≡ 513) (e : l₁ ≡ set l v x) (all : v + left ≡ count) (most : count ≤ 512) where
+  module _ (left v : ℕ) (x : Bool) (l l₁ : List Bool) (size : length l ≡ 513) (e : l₁ ≡ set l v x) (all : v + left ≡ count) (most : count ≤ 512) where
     given_same : {last : ℕ → ℕ} {c : ℕ} → Formed t start next head sides count last c
         → judged (joined (λ k. clause k ∷ []) c) (ranked side left (suc v)) (values_in l₁)
-        ≡ judged (joined (λ k. clause k ∷ []) c) (ranked side left (suc v)) (assign (values_in l) v (eqb x 1))
+        ≡ judged (joined (λ k. clause k ∷ []) c) (ranked side left (suc v)) (assign (values_in l) v x)
     given_same {c = c} F =
-        judged-agree clause side c count left v (values_in l₁) (assign (values_in l) v (eqb x 1)) (omega arith) F.ascends
+        judged-agree clause side c count left v (values_in l₁) (assign (values_in l) v x) (omega arith) F.ascends
         (λ b h. rw e (value_set l v x size (omega arith) b (omega arith)))
 
     -- A clause that v decides is false.
@@ -102,28 +102,28 @@ module _ (t start next head sides : List ℕ) (count : ℕ) where
         → Tried left v x l l₁ false
     tried_cut d f h = record {
       size = rw (e, length-set) size;
-      kept = λ b k. rw e (get_or-set_other l v b x 0 (omega arith));
+      kept = λ b k. rw e (get_or-set_other l v b x false (omega arith));
       verdict = λ last c F S. sym (sym (given_same F) ∙ fails (λ w. clash (sym (rw add-one at (h last c F.links)) ∙ f) (won_at F left v l₁ w)));
     }
 
     -- None is, and the rest is judged.
     pub tried_rest : (d : Bool) → d ≡ true → ((last : ℕ → ℕ) (c : ℕ) → Links last c next head → d ≡ hold_at t start (count + 1) last c v l₁)
-        → (l₂ : List ℕ) (r : Bool) → Rest t start next head sides count left l₁ l₂ r → Tried left v x l l₂ r
+        → (l₂ : List Bool) (r : Bool) → Rest t start next head sides count left l₁ l₂ r → Tried left v x l l₂ r
     tried_rest d f h l₂ r R =
         let n : count - left ≡ v = omega arith in record {
           size = R.size;
-          kept = λ b k. R.kept b (omega arith) ∙ rw e (get_or-set_other l v b x 0 (omega arith));
+          kept = λ b k. R.kept b (omega arith) ∙ rw e (get_or-set_other l v b x false (omega arith));
           verdict = λ last c F S.
-              (rw n at (R.verdict last c F)) (settled_more F v l₁ (settled_same F v l l₁ (omega arith) (λ b k. rw e (get_or-set_other l v b x 0 (omega arith))) S)
+              (rw n at (R.verdict last c F)) (settled_more F v l₁ (settled_same F v l l₁ (omega arith) (λ b k. rw e (get_or-set_other l v b x false (omega arith))) S)
               (true_holds (sym (rw add-one at (h last c F.links)) ∙ f))) ∙ given_same F;
         }
 
   -- The same under other names.
-  pub tried_as : {left v x : ℕ} {l l₁ l₂ : List ℕ} {r r' : Bool} → Tried left v x l l₁ r → l₂ ≡ l₁ → r' ≡ r → Tried left v x l l₂ r'
+  pub tried_as : {left v : ℕ} {x : Bool} {l l₁ l₂ : List Bool} {r r' : Bool} → Tried left v x l l₁ r → l₂ ≡ l₁ → r' ≡ r → Tried left v x l l₂ r'
   tried_as T e f = rw (e, f) T
 
   -- No boolean is to come.
-  pub rest_none : (left : ℕ) (l : List ℕ) → length l ≡ 513 → left ≡ 0 → Rest t start next head sides count left l l true
+  pub rest_none : (left : ℕ) (l : List Bool) → length l ≡ 513 → left ≡ 0 → Rest t start next head sides count left l l true
   rest_none left l z e = record {
     size = z;
     kept = λ b h. refl;
@@ -132,8 +132,8 @@ module _ (t start next head sides : List ℕ) (count : ℕ) where
         (λ k h. S k h (let z = F.ends k h in let y = last_most count 0 (clause k) (omega arith) (F.ascends k h) in omega arith))));
   }
 
-  module _ (left left' v : ℕ) (l l₁ : List ℕ) (a u : Bool) (e : left ≡ suc left') (all : v + left' ≡ count) (least : 0 < v) (most : count ≤ 512)
-      (s : u ≡ side v) (first : Tried left' v 0 l l₁ a) where
+  module _ (left left' v : ℕ) (l l₁ : List Bool) (a u : Bool) (e : left ≡ suc left') (all : v + left' ≡ count) (least : 0 < v) (most : count ≤ 512)
+      (s : u ≡ side v) (first : Tried left' v false l l₁ a) where
     pub rest-first : not (beq a u) ≡ true → Rest t start next head sides count left l l₁ a
     unfolding judged ranked
     rest-first q =
@@ -143,7 +143,7 @@ module _ (t start next head sides : List ℕ) (count : ℕ) where
           verdict = λ last c F S. rw (n, e) (first_decides (side v) a _ _ (first.verdict last c F (rw n at S)) (rw (← s) q));
         }
 
-    pub rest_second : not (beq a u) ≡ false → (l₂ : List ℕ) (r : Bool) → Tried left' v 1 l₁ l₂ r → Rest t start next head sides count left l l₂ r
+    pub rest_second : not (beq a u) ≡ false → (l₂ : List Bool) (r : Bool) → Tried left' v true l₁ l₂ r → Rest t start next head sides count left l l₂ r
     unfolding judged ranked
     rest_second q l₂ r second =
         let n : suc (count - left) ≡ v = omega arith in record {

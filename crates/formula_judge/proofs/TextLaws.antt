@@ -1,12 +1,12 @@
 -- The formula of a text from its index: the verdict of the first call is that of the formula.
-use mathlib.Core.Path.{◌≡◌, refl, sym, ap, ◌∙◌}
+use mathlib.Core.Path.{◌≡◌, sym, ap, ◌∙◌}
 use mathlib.Core.Bool.{Bool, true, false}
 use mathlib.Core.List.{List, [], ◌∷◌, ◌++◌}
 use Prim.Native.Nat.{ℕ, zero, suc, ◌+◌, ◌-◌, ◌≤◌, ◌<◌, min}
 use native.Mathlib.Nat.{mod-eq_of_lt}
 use native.Mathlib.Numerals.{add-one}
 use native.Mathlib.Omega.{arith}
-use lib.Dec.{T, eqb}
+use lib.Dec.{T}
 use lib.ListN.{get_or, length, replicate}
 use Rattle.mask.proofs.Logic.{fails, clash, by_eq, and_in, and_out}
 use Rattle.buffer.specs.Stored.{joined}
@@ -43,27 +43,27 @@ ascend_each most g (suc c) t k h =
     by_eq k c (λ e. rw e (and_out (ascending most 0 (g c)) true r.1).0) (λ e. ascend_each most g c r.0 k (omega arith))
 
 -- Boolean 0 has no value.
-none_given : (values : List ℕ) → get_or values 0 0 ≡ 0 → (b : ℕ) → b ≡ 0 → values_in values b ≡ false
+none_given : (values : List Bool) → get_or values 0 false ≡ false → (b : ℕ) → b ≡ 0 → values_in values b ≡ false
 unfolding values_in
-none_given values g b e = rw e (rw g refl)
+none_given values g b e = rw e g
 
 -- ---- the index of a text
 
 -- What is read of it: booleans, clauses, the place of the first clause, the arrays.
-pub record Indexed (t : List ℕ) (count n q : ℕ) (start next head sides : List ℕ) : Type 0 where
+pub record Indexed (t : List ℕ) (count n q : ℕ) (start next head : List ℕ) (sides : List Bool) : Type 0 where
   pub booleans : count ≡ min (number_at t 6) 512
   pub clauses : n ≡ min (number_at t (after t 6)) 127008
   pub place : q ≡ blocks_end t (suc count) (suc count) (after t (after t 6))
-  pub marks : sides ≡ marked (replicate 513 0) (blocks_at t (suc count) (suc count) (after t (after t 6)))
+  pub marks : sides ≡ marked (replicate 513 false) (blocks_at t (suc count) (suc count) (after t (after t 6)))
   pub starts : start ≡ start_to t (suc count) q (replicate 127008 0) n
   pub nexts : next ≡ next_to t (suc count) q (replicate 127008 0) (replicate 513 0) n
   pub heads : head ≡ head_to t (suc count) q (replicate 513 0) n
 
 -- As it is read: the two numbers of the first line, the lines of the prefix, the clauses.
-pub indexed : {t : List ℕ} {v c : Number} {count n q : ℕ} {start next head sides : List ℕ}
+pub indexed : {t : List ℕ} {v c : Number} {count n q : ℕ} {start next head : List ℕ} {sides : List Bool}
     → (v.value ≡ number_at t 6) × (v.after ≡ after t 6) → (c.value ≡ number_at t v.after) × (c.after ≡ after t v.after)
     → count ≡ min v.value 512 → n ≡ min c.value 127008
-    → q ≡ blocks_end t (count + 1) (count + 1) c.after → sides ≡ marked (replicate 513 0) (blocks_at t (count + 1) (count + 1) c.after)
+    → q ≡ blocks_end t (count + 1) (count + 1) c.after → sides ≡ marked (replicate 513 false) (blocks_at t (count + 1) (count + 1) c.after)
     → start ≡ start_to t (count + 1) q (replicate 127008 0) n → next ≡ next_to t (count + 1) q (replicate 127008 0) (replicate 513 0) n
     → head ≡ head_to t (count + 1) q (replicate 513 0) n → Indexed t count n q start next head sides
 indexed {t} {v} {c} {count} a b e f g s x y z =
@@ -77,7 +77,7 @@ indexed {t} {v} {c} {count} a b e f g s x y z =
       heads = rw add-one at z;
     }
 
-module _ {t : List ℕ} {count n q : ℕ} {start next head sides : List ℕ} (I : Indexed t count n q start next head sides) where
+module _ {t : List ℕ} {count n q : ℕ} {start next head : List ℕ} {sides : List Bool} (I : Indexed t count n q start next head sides) where
   -- Of any text: its chains link, and go down.
   links_by : Links (last_of t (suc count) q) n next head
   links_by =
@@ -97,12 +97,12 @@ module _ {t : List ℕ} {count n q : ℕ} {start next head sides : List ℕ} (I 
     all_booleans : count ≡ number_at t 6
     all_booleans = let e = I.booleans in let h = J.header in let b = J.booleans in omega arith
 
-    all_prefix : (read_text t).prefix ≡ ranked (λ b. eqb (get_or sides b 0) 1) count 1
+    all_prefix : (read_text t).prefix ≡ ranked (λ b. get_or sides b false) count 1
     unfolding read_text
     all_prefix =
         rw (I.marks, all_booleans)
         (marked-ranked (read_text t).prefix 1 J.ordered.prefix (let b = J.booleans in omega arith)
-        ∙ ap (λ (k : ℕ). ranked (λ b. eqb (get_or (marked (replicate 513 0) (read_text t).prefix) b 0) 1) k 1) J.header)
+        ∙ ap (λ (k : ℕ). ranked (λ b. get_or (marked (replicate 513 false) (read_text t).prefix) b false) k 1) J.header)
 
     most_clauses : n ≤ 127008
     most_clauses = let e = I.clauses in omega arith
@@ -145,7 +145,7 @@ module _ {t : List ℕ} {count n q : ℕ} {start next head sides : List ℕ} (I 
     formed_by = record { links = links_by; ends = ends_by; ascends = ascends_by }
 
     formula_by : judge_formula (read_text t)
-        ≡ judged (joined (λ k. clause_at t start (suc count) k ∷ []) n) (ranked (λ b. eqb (get_or sides b 0) 1) count 1) (λ v. false)
+        ≡ judged (joined (λ k. clause_at t start (suc count) k ∷ []) n) (ranked (λ b. get_or sides b false) count 1) (λ v. false)
     unfolding judge_formula
     formula_by = rw (all_clauses, all_prefix)
 
@@ -162,16 +162,16 @@ module _ {t : List ℕ} {count n q : ℕ} {start next head sides : List ℕ} (I 
           let c = clause_at t start (suc count) (x - 1) in
           let l = ends_by (x - 1) r.0 in let z = r.1 in
           clash (last_none (λ v. false) count c (ascends_by (x - 1) r.0) (omega arith))
-          (won_holds (clause_at t start (suc count)) (λ b. eqb (get_or sides b 0) 1) n count count 0 (λ v. false) w (x - 1) r.0 (ascends_by (x - 1) r.0) (omega arith))))
+          (won_holds (clause_at t start (suc count)) (λ b. get_or sides b false) n count count 0 (λ v. false) w (x - 1) r.0 (ascends_by (x - 1) r.0) (omega arith))))
 
       -- None is empty: the first call replies the verdict.
-      pub judged_by_lem : x ≡ 0 → {values values' : List ℕ} {r : Bool} → get_or values 0 0 ≡ 0 → Rest t start next head sides count count values values' r
+      pub judged_by_lem : x ≡ 0 → {values values' : List Bool} {r : Bool} → get_or values 0 false ≡ false → Rest t start next head sides count count values values' r
           → r ≡ judge_formula (read_text t)
       judged_by_lem z {values} g R =
           let f = first-before in
           let o : suc (count - count) ≡ 1 = omega arith in
           (rw o at (R.verdict (last_of t (suc count) q) n formed_by))
           (λ k h l. absurd (before_none (last_of t (suc count) q) 0 n (omega arith) k h (omega arith)))
-          ∙ judged-agree (clause_at t start (suc count)) (λ b. eqb (get_or sides b 0) 1) n count count 0 (values_in values) (λ v. false) (omega arith) ascends_by
+          ∙ judged-agree (clause_at t start (suc count)) (λ b. get_or sides b false) n count count 0 (values_in values) (λ v. false) (omega arith) ascends_by
           (λ b h. none_given values g b (omega arith))
           ∙ sym formula_by

@@ -67,7 +67,7 @@ module _ (last : ℕ → ℕ) (v : ℕ) where
       go true d z f = omega arith
       go false d z f = by_eq j k (λ w. eqb-false (last k) v d (rw w at q)) (λ w. f z j (omega arith) q)
 
-module _ (t start next head : List ℕ) (most v : ℕ) (values : List ℕ) where
+module _ (t start next head : List ℕ) (most v : ℕ) (values : List Bool) where
   -- A walk has come to x: those behind x that end with v hold.
   pub record Walked (last : ℕ → ℕ) (c x : ℕ) : Type 0 where
     pub inside : x ≤ c

@@ -3,7 +3,7 @@
 // clauses whose last boolean was just decided. It rests on `formula_index` and `formula_theory`. `judge_text` is for `formula_entries`.
 #![tactic(auto)]
 
-ghost use Rattle.std.specs.Prelude.{◌≡◌, ℕ, ◌+◌, ◌≤◌, ◌<◌, eqb, get_or, set};
+ghost use Rattle.std.specs.Prelude.{◌≡◌, ℕ, ◌+◌, ◌≤◌, ◌<◌, false, get_or, set};
 ghost use Rattle.formula.specs.Formula.{clause_holds, judge_formula};
 ghost use Rattle.formula.specs.Text.{read_text};
 ghost use Rattle.formula_judge.specs.Judgeable.{Judgeable};
@@ -18,7 +18,7 @@ struct Index<'a> {
     start: &'a [u32; CLAUSES],
     next: &'a [u32; CLAUSES],
     head: &'a [u32; PLACES],
-    sides: &'a [u8; PLACES],
+    sides: &'a [bool; PLACES],
     count: usize,
     ghost small: { count ≤ 512 },
     ghost inside: { (v : ℕ) → get_or head.now v 0 ≤ 127008 },
@@ -26,15 +26,16 @@ struct Index<'a> {
 }
 
 // The value of a boolean.
-fn value_of(values: &[u8; PLACES], b: usize) -> bool
+#[tactic(auto, unfolding(crate::specs::Rest::values_in))]
+fn value_of(values: &[bool; PLACES], b: usize) -> bool
     ensures { result ≡ values_in values.now b }
 {
-    values[b % PLACES] == 1
+    values[b % PLACES]
 }
 
 impl<'a> Index<'a> {
     // Whether clause k holds.
-    fn clause_holds(&self, k: usize, values: &[u8; PLACES]) -> bool
+    fn clause_holds(&self, k: usize, values: &[bool; PLACES]) -> bool
         requires { k < 127008 }
         ensures { result ≡ clause_holds (values_in values.now) (clause_at self.now.text.now self.now.start.now (self.now.count + 1) k) }
     {
@@ -43,14 +44,13 @@ impl<'a> Index<'a> {
     }
 
     // Whether every clause whose last boolean is v holds.
-    fn clauses_hold(&self, v: usize, values: &[u8; PLACES]) -> bool
+    fn clauses_hold(&self, v: usize, values: &[bool; PLACES]) -> bool
         requires { v < 513 }
         ensures { (last : ℕ → ℕ) (c : ℕ) → Links last c self.now.next.now self.now.head.now
             → result ≡ hold_at self.now.text.now self.now.start.now (self.now.count + 1) last c v values.now }
     {
         let mut x = self.head[v] as usize;
-        while x != 0 {
-            let k = x - 1;
+        while let Some(k) = x.checked_sub(1) {
             if !self.clause_holds(k, values) {
                 return false;
             }
@@ -60,7 +60,7 @@ impl<'a> Index<'a> {
     }
 
     // The boolean behind the first `done` gets the value x; whether every clause that it decides holds.
-    fn decided(&self, done: usize, x: u8, values: &mut [u8; PLACES]) -> bool
+    fn decided(&self, done: usize, x: bool, values: &mut [bool; PLACES]) -> bool
         requires { done < 512 }
         ensures values_after { values.new ≡ set values.old (done + 1) x }
         ensures by_index { (last : ℕ → ℕ) (c : ℕ) → Links last c self.now.next.now self.now.head.now
@@ -74,13 +74,13 @@ impl<'a> Index<'a> {
     // Whether boolean v is universal.
     fn is_universal(&self, v: usize) -> bool
         requires { v < 513 }
-        ensures { result ≡ eqb (get_or self.now.sides.now v 0) 1 }
+        ensures { result ≡ get_or self.now.sides.now v false }
     {
-        self.sides[v] == 1
+        self.sides[v]
     }
 
     // The formula with `left` of its booleans to come, under the values of the others.
-    fn judge_rest(&self, left: usize, values: &mut [u8; PLACES]) -> bool
+    fn judge_rest(&self, left: usize, values: &mut [bool; PLACES]) -> bool
         requires { left ≤ self.now.count }
         ensures { Rest self.now.text.now self.now.start.now self.now.next.now self.now.head.now self.now.sides.now self.now.count
             left values.old values.new result }
@@ -91,11 +91,11 @@ impl<'a> Index<'a> {
         let done = self.count - left;
         let rest = left - 1;
         let all = self.is_universal(done + 1);
-        let no = self.decided(done, 0, values) && self.judge_rest(rest, values);
+        let no = self.decided(done, false, values) && self.judge_rest(rest, values);
         if no != all {
             return no;
         }
-        self.decided(done, 1, values) && self.judge_rest(rest, values)
+        self.decided(done, true, values) && self.judge_rest(rest, values)
     }
 }
 
@@ -106,8 +106,8 @@ pub fn judge_text(t: &[u8]) -> bool
     let mut start = [0u32; CLAUSES];
     let mut next = [0u32; CLAUSES];
     let mut head = [0u32; PLACES];
-    let mut sides = [0u8; PLACES];
-    let mut values = [0u8; PLACES];
+    let mut sides = [false; PLACES];
+    let mut values = [false; PLACES];
     let v = number_at(t, 6);
     let c = number_at(t, v.after);
     let count = v.value.min(512);

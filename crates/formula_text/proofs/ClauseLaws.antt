@@ -131,9 +131,9 @@ module _ (P : Problem) (A : Arrays) (S : Poses P A) where
       ∙ ap (joined (λ i. only_if (not (P.universal i)) (at_least_one P i ∷ []))) (sym S.states.size)
 
   -- All clauses.
-  pub clauses_are : 0 < A.n → clauses_in A ≡ (formula_of P).clauses
+  pub clauses_are : clauses_in A ≡ (formula_of P).clauses
   unfolding clauses_in formula_of closing_clauses
-  clauses_are some =
+  clauses_are =
       ap₂ (λ xs ys. xs ++ ys) (ap₂ (λ xs ys. xs ++ ys) existentials_are constraints_are)
-      (ap₂ (λ b k. only_if b (positives k 1 ∷ [])) (closes_is P A S some) (all_is P A S)
+      (ap₂ (λ b k. only_if b (positives k 1 ∷ [])) (closes_is P A S) (all_is P A S)
       ∙ ap (λ (c : List Literal). only_if (closes P) (c ∷ [])) (closing_is P))

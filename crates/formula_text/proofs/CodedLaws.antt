@@ -62,6 +62,6 @@ module _ (P : Problem) (A : Arrays) (S : Poses P A) where
   unfolding all_in
   all_is = base_is A.n (omega arith) ∙ ap (base P) (sym S.states.size)
 
-  pub closes_is : 0 < A.n → closes_in A ≡ closes P
+  pub closes_is : closes_in A ≡ closes P
   unfolding closes_in closes
-  closes_is h = side_is (A.n - 1) (omega arith) ∙ ap (λ k. P.universal (k - 1)) (sym S.states.size)
+  closes_is = side_is (A.n - 1) (omega (arith, A.some)) ∙ ap (λ k. P.universal (k - 1)) (sym S.states.size)

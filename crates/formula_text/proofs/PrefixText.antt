@@ -20,7 +20,7 @@ use Rattle.solver_arrays.specs.Arrays.{Poses}
 use Rattle.formula_words.specs.declared.coded.Coded.{Coded}
 use Rattle.formula_words.specs.Coding.{coded_in}
 use Rattle.formula_words.specs.Words.{words_text}
-use Rattle.formula_text.specs.Body.{turn_text, opening_text, block_text, blocks_text, prefix_lines}
+use Rattle.formula_text.specs.Body.{turn_text, opening_text, block_text, blocks_text, fresh_text, prefix_lines}
 use Rattle.formula_text.proofs.CodedLaws.{code_of, side_is, coded_is, all_is, closes_is}
 
 -- ---- one block
@@ -128,11 +128,11 @@ module _ (P : Problem) (A : Arrays) (S : Poses P A) where
       ∙ sym (append_assoc (block_text A 0) (joined (λ t. block_text A (1 + t)) k) end)
       ∙ ap (λ xs. xs ++ end) (sym (joined-from (block_text A) 0 k) ∙ joined_same (λ t. block_text A (0 + t)) (block_text A) (suc k) (λ i h. ap (block_text A) (zero-add i)))
 
-  pub prefix_is : 0 < A.n → prefix_lines A ≡ prefix_text (formula_of P).prefix
-  unfolding prefix_lines blocks_text formula_of end_text
-  prefix_is h =
-      let e : suc (A.n - 1) ≡ A.n = omega arith in
-      let e' : suc (A.n - 1) ≡ P.n = omega (arith, S.states.size) in
-      ap₂ (λ xs ys. xs ++ ys) (ap (joined (block_text A)) (sym e)) (ap₂ end_text (closes_is P A S h) (all_is P A S))
+  pub prefix_is : prefix_lines A ≡ prefix_text (formula_of P).prefix
+  unfolding prefix_lines fresh_text blocks_text formula_of end_text
+  prefix_is =
+      let e : suc (A.n - 1) ≡ A.n = omega (arith, A.some) in
+      let e' : suc (A.n - 1) ≡ P.n = omega (arith, A.some, S.states.size) in
+      ap₂ (λ xs ys. xs ++ ys) (ap (joined (block_text A)) (sym e)) (ap₂ end_text (closes_is P A S) (all_is P A S))
       ∙ sym (lines_all (A.n - 1) e)
       ∙ ap (λ k. prefix_text (prefix_from P k 0)) e'

@@ -3,6 +3,7 @@
 use Rattle.std.specs.Prelude.{ℕ, suc, ◌-◌, min, ◌≡◌, Bool, true, false, cond, List, [], ◌∷◌, ◌++◌, eqb, length}
 use Rattle.mask.specs.Mask.{bit}
 use Rattle.buffer.specs.Stored.{joined}
+use Rattle.buffer.specs.declared.Text.{Text}
 use Rattle.buffer.specs.Put.{largest, Put}
 use Rattle.formula.specs.Formula.{Literal, only_if}
 use Rattle.formula.specs.Text.{line_end, letter, line_start, clauses_text}
@@ -10,7 +11,6 @@ use Rattle.solver_arrays.specs.declared.arrays.Arrays.{Arrays}
 use Rattle.formula_words.specs.Coding.{base_in, coded_in}
 use Rattle.formula_words.specs.Words.{words_text, positives}
 use Rattle.formula_clauses.specs.Clauses.{constraints_of, existentials_of}
-use Rattle.formula_clauses.specs.declared.Spot.{Spot}
 
 -- From a line of side u to one of side w.
 unfoldable pub turn_text : Bool → Bool → List ℕ
@@ -33,9 +33,12 @@ closes_in A = bit A.universal (A.n - 1)
 unfoldable pub all_in : Arrays → ℕ
 all_in A = base_in A A.n
 
--- The lines of the prefix, with the closing boolean.
+-- The closing boolean; the lines of the prefix with it.
+unfoldable pub fresh_text : Arrays → List ℕ
+fresh_text A = cond (closes_in A) (turn_text true false ++ words_text (all_in A) 1) []
+
 unfoldable pub prefix_lines : Arrays → List ℕ
-prefix_lines A = blocks_text A ++ (cond (closes_in A) (turn_text true false ++ words_text (all_in A) 1) [] ++ line_end)
+prefix_lines A = blocks_text A ++ (fresh_text A ++ line_end)
 
 -- How many booleans there are; all clauses.
 unfoldable pub booleans_in : Arrays → ℕ
@@ -47,7 +50,7 @@ clauses_in A = (existentials_of A ++ constraints_of A) ++ only_if (closes_in A) 
 unfoldable pub body_text : Arrays → List ℕ
 body_text A = prefix_lines A ++ clauses_text (clauses_in A)
 
--- The lines were put into l from `at` on, which leads to r; l' is the buffer afterwards.
-pub record Bodied (A : Arrays) (l : List ℕ) (at : ℕ) (r : Spot) (l' : List ℕ) : Type 0 where
-  pub text : Put l at (body_text A) r.at l'
-  pub count : r.clauses ≡ min largest (length (clauses_in A))
+-- The lines were put into s, t is what s is afterwards, and they have k clauses.
+pub record Bodied (A : Arrays) (s t : Text) (k : ℕ) : Type 0 where
+  pub text : Put s (body_text A) t
+  pub count : k ≡ min largest (length (clauses_in A))

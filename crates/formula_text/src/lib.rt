@@ -3,69 +3,76 @@
 // `formula_entries`.
 #![tactic(auto)]
 
-ghost use Rattle.std.specs.Prelude.{◌≡◌, ◌<◌};
+ghost use Rattle.std.specs.Prelude.{◌≡◌};
 ghost use Rattle.buffer.specs.Put.{Put};
 ghost use Rattle.formula.specs.Text.{header_text};
 ghost use Rattle.formula_text.specs.Body.{booleans_in, Bodied};
-ghost use Rattle.formula_text.specs.Written.{Printable, Measures, Prints};
+ghost use Rattle.formula_text.specs.Written.{Measures, Prints};
 
 mod closing;
 mod prefix;
 
-use buffer::{put, put_number};
+use buffer::Text;
 use closing::put_closing;
-use formula_clauses::{Spot, put_constraints, put_existentials};
+use formula_clauses::Clauses;
 use prefix::{all_booleans, closes, put_prefix};
 use solver_arrays::Arrays;
 
 // How many booleans the prefix has.
 fn booleans(arrays: &Arrays) -> usize
-    requires { 0 < arrays.now.n }
     ensures { result ≡ booleans_in arrays.now }
 {
-    let all = all_booleans(arrays);
-    if closes(arrays) { all + 1 } else { all }
+    all_booleans(arrays) + usize::from(closes(arrays))
 }
 
 // The first line: how many booleans and clauses there are.
-fn put_header(out: &mut [u8], at: usize, booleans: usize, clauses: usize) -> usize
-    ensures { Put out.old at (header_text booleans clauses) result out.new }
+fn put_header(t: &mut Text, booleans: usize, clauses: usize)
+    ensures { Put t.old (header_text booleans clauses) t.new }
 {
-    let a = put(out, at, b"p cnf ");
-    let b = put_number(out, a, booleans);
-    let c = put(out, b, b" ");
-    let d = put_number(out, c, clauses);
-    put(out, d, b"\n")
+    t.put(b"p cnf ");
+    t.put_number(booleans);
+    t.put(b" ");
+    t.put_number(clauses);
+    t.put(b"\n");
 }
 
-// All other lines.
-fn put_body(out: &mut [u8], at: usize, arrays: &Arrays) -> Spot
-    requires { Printable arrays.now }
-    ensures { Bodied arrays.now out.old at result out.new }
+// All other lines; replies how many clauses they have.
+fn put_body(t: &mut Text, arrays: &Arrays) -> usize
+    ensures { Bodied arrays.now t.old t.new result }
 {
-    let p = put_prefix(out, at, arrays);
-    let s = Spot { at: p, clauses: 0 };
-    let a = put_existentials(out, s, arrays);
-    let b = put_constraints(out, a, arrays);
-    put_closing(out, b, arrays)
+    put_prefix(t, arrays);
+    let mut s = Clauses { text: t, count: 0 };
+    s.put_existentials(arrays);
+    s.put_constraints(arrays);
+    put_closing(&mut s, arrays);
+    s.count
 }
 
-// How long the text is, and how many clauses it has: its lines put into a buffer that holds none of them.
-pub fn measure(arrays: &Arrays) -> Spot
-    requires { Printable arrays.now }
+// How long a text is, and how many clauses it has.
+#[derive(Clone, Copy)]
+pub struct Size {
+    pub length: usize,
+    pub clauses: usize,
+}
+
+// The size of the text: its lines put into a buffer that holds none of them.
+pub fn measure(arrays: &Arrays) -> Size
     ensures { Measures arrays.now result }
 {
-    let mut none = [0u8; 1];
-    let s = put_body(&mut none, 0, arrays);
-    let h = put_header(&mut none, s.at, booleans(arrays), s.clauses);
-    Spot { at: h, ..s }
+    let mut t = Text::new(&mut []);
+    let clauses = put_body(&mut t, arrays);
+    put_header(&mut t, booleans(arrays), clauses);
+    Size {
+        length: t.at,
+        clauses,
+    }
 }
 
 // Puts the text, with this number of clauses, at the front of the buffer.
 pub fn put_formula(out: &mut [u8], arrays: &Arrays, clauses: usize)
-    requires { Printable arrays.now }
     ensures { Prints arrays.now clauses out.old out.new }
 {
-    let h = put_header(out, 0, booleans(arrays), clauses);
-    put_body(out, h, arrays);
+    let mut t = Text::new(out);
+    put_header(&mut t, booleans(arrays), clauses);
+    put_body(&mut t, arrays);
 }

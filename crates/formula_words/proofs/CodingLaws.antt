@@ -1,32 +1,17 @@
--- What is coded of a variable is small: no more than 16 values and booleans; the booleans before it are no more than 16 of each variable.
-use mathlib.Core.Path.{◌≡◌, refl}
+-- What is coded of a variable, part by part.
+use mathlib.Core.Path.{◌≡◌}
 use mathlib.Core.Bool.{Bool, true, false}
-use Prim.Native.Nat.{ℕ, ◌+◌, ◌*◌, ◌≤◌, ◌<◌, ◌^◌}
+use Prim.Native.Nat.{ℕ, ◌+◌, ◌≤◌, ◌^◌}
 use native.Mathlib.Numerals.{add-one}
 use native.Mathlib.Omega.{arith}
 use lib.ListN.{get_or}
 use Rattle.mask.specs.Range.{count}
 use Rattle.mask.specs.Mask.{bit}
-use Rattle.mask.proofs.Range.{count-bound}
 use Rattle.formula.specs.Encoding.{bits_for, width_for, ways_for}
-use Rattle.formula.proofs.BitLaws.{width_for_most, sum_most}
 use Rattle.solver_arrays.specs.declared.arrays.Arrays.{Arrays}
-use Rattle.formula_words.specs.declared.coded.Coded.{Coded}
-use Rattle.formula_words.specs.Coding.{size_in, base_in, coded_in, Bounded}
-
-pub size_most : (A : Arrays) (i : ℕ) → size_in A i ≤ 16
-unfolding size_in
-size_most A i = count-bound 16 (bit (get_or A.domains i 0))
+use Rattle.formula_words.specs.Coding.{size_in, base_in, coded_in}
 
 -- By side.
-pub width-universal : (b : Bool) (d w : ℕ) → b ≡ true → w ≡ bits_for d → w ≤ 4 → (w ≡ width_for b d) × (w ≤ 16)
-unfolding width_for
-width-universal b d w t e h = (rw t e, omega arith)
-
-pub width_existential : (b : Bool) (d : ℕ) → b ≡ false → d ≤ 16 → (d ≡ width_for b d) × (d ≤ 16)
-unfolding width_for
-width_existential b d t h = (rw t, h)
-
 pub ways-universal : (b : Bool) (d w r : ℕ) → b ≡ true → w ≡ bits_for d → r ≡ 2 ^ w → r ≡ ways_for b d
 unfolding ways_for
 ways-universal b d w r t e f = rw (t, ← e) f
@@ -42,12 +27,6 @@ pub base_more :
 unfolding base_in size_in
 base_more A k base u size width a b c d = rw (add-one, a, d, c, b)
 
-pub base_most : (A : Arrays) (i : ℕ) → base_in A i ≤ 16 * i
-unfolding base_in
-base_most A =
-    sum_most 16 (base_in A) (λ i. width_for (bit A.universal i) (size_in A i)) refl (λ i. refl)
-    (λ i. width_for_most (bit A.universal i) (size_in A i) (size_most A i))
-
 -- All of a variable.
 pub coded_by :
     (A : Arrays) (i : ℕ) (u : Bool) (base size width ways : ℕ) → u ≡ bit A.universal i → size ≡ count 16 (bit (get_or A.domains i 0)) → base ≡ base_in A i
@@ -55,14 +34,3 @@ pub coded_by :
     → record { universal = u; base = base; size = size; width = width; ways = ways; domain = get_or A.domains i 0 } ≡ coded_in A i
 unfolding coded_in size_in
 coded_by A i u base size width ways a b c d e = rw (e, d, c, b, a)
-
-pub coded_bounded : (A : Arrays) (i : ℕ) → i ≤ 32 → Bounded (coded_in A i)
-unfolding coded_in
-coded_bounded A i h = record {
-  base = let b = base_most A i in omega arith;
-  size = size_most A i;
-  width = width_for_most (bit A.universal i) (size_in A i) (size_most A i);
-}
-
-pub bounded_of : (A : Arrays) (i : ℕ) (x : Coded) → i < 32 → x ≡ coded_in A i → Bounded x
-bounded_of A i x h e = rw e (coded_bounded A i (omega arith))

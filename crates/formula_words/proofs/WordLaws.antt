@@ -8,6 +8,7 @@ use Rattle.mask.specs.Mask.{bit}
 use Rattle.buffer.specs.Decimal.{decimal}
 use Rattle.buffer.specs.Stored.{joined}
 use Rattle.buffer.specs.Put.{Put}
+use Rattle.buffer.specs.declared.Text.{Text}
 use Rattle.buffer.proofs.PutLaws.{put_behind, put-joined}
 use Rattle.formula.specs.Formula.{Literal}
 use Rattle.formula.specs.Text.{blank, line_end, literal_text, clause_text}
@@ -46,41 +47,39 @@ words_positive base k = literals_joined (λ t. record { positive = true; boolean
 
 -- ---- literals put
 
-module _ {l l' : List ℕ} {at r : ℕ} where
+module _ {s u : Text} where
   -- A boolean; a minus and a boolean.
-  pub put_positive : (b : Bool) (x : ℕ) → b ≡ true → Put l at (decimal x ++ blank) r l' → Put l at (literal_word b x) r l'
+  pub put_positive : (b : Bool) (x : ℕ) → b ≡ true → Put s (decimal x ++ blank) u → Put s (literal_word b x) u
   unfolding literal_word literal_text
-  put_positive b x t p = rw t p
+  put_positive b x e p = rw e p
 
-  pub put-negative : {m : List ℕ} {e : ℕ} (b : Bool) (x : ℕ) → b ≡ false → Put l at (45 ∷ []) e m → Put m e (decimal x ++ blank) r l' → Put l at (literal_word b x) r l'
+  pub put-negative : {t : Text} (b : Bool) (x : ℕ) → b ≡ false → Put s (45 ∷ []) t → Put t (decimal x ++ blank) u → Put s (literal_word b x) u
   unfolding literal_word literal_text
-  put-negative b x t p q = rw t (put_behind p q)
+  put-negative b x e p q = rw e (put_behind p q)
 
   -- One boolean more.
-  pub words_more :
-      {m : List ℕ} {e : ℕ} (base t : ℕ) → Put l at (words_text base t) e m → Put m e (decimal (base + t + 1) ++ blank) r l'
-      → Put l at (words_text base (t + 1)) r l'
+  pub words_more : {t : Text} (base i : ℕ) → Put s (words_text base i) t → Put t (decimal (base + i + 1) ++ blank) u → Put s (words_text base (i + 1)) u
   unfolding words_text
-  words_more base t p q = rw add-one (put-joined (λ t. decimal (suc (base + t)) ++ blank) t p (rw add-one at q))
+  words_more base i p q = rw add-one (put-joined (λ i. decimal (suc (base + i)) ++ blank) i p (rw add-one at q))
 
   -- One bit more.
   pub bits_more :
-      {m : List ℕ} {e : ℕ} (base t c : ℕ) (b : Bool) → b ≡ bit c t → Put l at (literals_text (bits_denied base t c)) e m
-      → Put m e (literal_word (not b) (base + t + 1)) r l' → Put l at (literals_text (bits_denied base (t + 1) c)) r l'
+      {t : Text} (base i c : ℕ) (b : Bool) → b ≡ bit c i → Put s (literals_text (bits_denied base i c)) t
+      → Put t (literal_word (not b) (base + i + 1)) u → Put s (literals_text (bits_denied base (i + 1) c)) u
   unfolding bits_denied
-  bits_more {m} {e} base t c b z p q =
-      let g : ℕ → Literal = λ t. record { positive = not (bit c t); boolean = suc (base + t) } in
-      let w : ℕ → List ℕ = λ t. literal_word (not (bit c t)) (suc (base + t)) in
+  bits_more {t} base i c b z p q =
+      let g : ℕ → Literal = λ i. record { positive = not (bit c i); boolean = suc (base + i) } in
+      let w : ℕ → List ℕ = λ i. literal_word (not (bit c i)) (suc (base + i)) in
       rw add-one
-      (subst (λ (x : List ℕ). Put l at x r l') (sym (literals_joined g (suc t)))
-      (put-joined w t (subst (λ (x : List ℕ). Put l at x e m) (literals_joined g t) p) (rw (z, add-one) at q)))
+      (subst (λ (x : List ℕ). Put s x u) (sym (literals_joined g (suc i)))
+      (put-joined w i (subst (λ (x : List ℕ). Put s x t) (literals_joined g i) p) (rw (z, add-one) at q)))
 
   -- The literals that deny a way, by side.
-  pub put_code : (x : Coded) (c : ℕ) → x.universal ≡ true → Put l at (literals_text (bits_denied x.base x.width c)) r l' → Put l at (literals_text (denial_of x c)) r l'
+  pub put_code : (x : Coded) (c : ℕ) → x.universal ≡ true → Put s (literals_text (bits_denied x.base x.width c)) u → Put s (literals_text (denial_of x c)) u
   unfolding denial_of
-  put_code x c t p = rw t p
+  put_code x c e p = rw e p
 
-  pub put_boolean : (x : Coded) (c : ℕ) → x.universal ≡ false → Put l at (literal_word false (x.base + c + 1)) r l' → Put l at (literals_text (denial_of x c)) r l'
+  pub put_boolean : (x : Coded) (c : ℕ) → x.universal ≡ false → Put s (literal_word false (x.base + c + 1)) u → Put s (literals_text (denial_of x c)) u
   unfolding denial_of
-  put_boolean x c t p =
-      rw t (subst (λ (y : List ℕ). Put l at y r l') (sym (literals_one (record { positive = false; boolean = suc (x.base + c) }))) (rw add-one at p))
+  put_boolean x c e p =
+      rw e (subst (λ (y : List ℕ). Put s y u) (sym (literals_one (record { positive = false; boolean = suc (x.base + c) }))) (rw add-one at p))

@@ -9,13 +9,13 @@ use mask::{contains, count_of, meet, single};
 use solver_arrays::Arrays;
 
 // Of a variable: its side, how many booleans come before its own, how many values it has, how many booleans it becomes, how many ways
-// stand for its values, its domain.
+// stand for its values, its domain. Its numbers are small by their types.
 #[derive(Clone, Copy)]
 pub struct Coded {
     pub universal: bool,
-    pub base: usize,
-    pub size: usize,
-    pub width: usize,
+    pub base: u16,
+    pub size: u8,
+    pub width: u8,
     pub ways: usize,
     pub domain: u16,
 }
@@ -42,6 +42,7 @@ fn size_of(domain: u16) -> usize
     count_of(domain) as usize
 }
 
+#[tactic(auto, unfolding(formula::specs::Encoding::width_for))]
 fn width_of(universal: bool, size: usize) -> usize
     requires { size ≤ 16 }
     ensures { (result ≡ width_for universal size) × (result ≤ 16) }
@@ -77,9 +78,9 @@ pub fn coding_of(arrays: &Arrays, i: usize) -> Coded
     let size = size_of(domain);
     Coded {
         universal,
-        base: base_of(arrays, i),
-        size,
-        width: width_of(universal, size),
+        base: base_of(arrays, i) as u16,
+        size: size as u8,
+        width: width_of(universal, size) as u8,
         ways: ways_of(universal, size),
         domain,
     }

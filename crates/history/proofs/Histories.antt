@@ -12,7 +12,6 @@ use Rattle.refusal.specs.Replied.{replied_for}
 use Rattle.refusal.specs.Chain.{Fine, ◌then◌, need}
 use Rattle.rule_set.specs.RuleSet.{greatest_set, is_rule_set}
 use Rattle.file_records.specs.Records.{verdict_of}
-use Rattle.file_reader.proofs.Accepted.{variables_most}
 use Rattle.game.specs.Problem.{Problem}
 use Rattle.game.specs.Position.{legal}
 use Rattle.game.specs.Calls.{Call, standing}
@@ -26,7 +25,7 @@ use Rattle.position.proofs.Shown.{plays_shown}
 use Rattle.search_run.specs.Run.{room_needed}
 use Rattle.session.specs.Told.{open_told}
 use Rattle.session.specs.History.{reached_by}
-use Rattle.session.proofs.HistoryLaws.{legal_fit, reached_shows, reached-opens}
+use Rattle.session.proofs.HistoryLaws.{few, legal_fit, reached_shows, reached-opens}
 use Rattle.judging.specs.Tests.{position_test, room_test}
 use Rattle.marking.specs.Marking.{mark_test, mark_reply, mark_told}
 use Rattle.history.specs.Replay.{list_marked, Demand3}
@@ -35,12 +34,8 @@ module _ (f : List ℕ) (fine : verdict_of f ≡ Fine) where
   abbrev P : Problem
   P = problem_of f fine
 
-  few : P.n ≤ 32
-  unfolding problem_of
-  few = variables_most f fine
-
   fits : (l : List ℕ) → T (legal P l) → fits_in (shown l) P.n P.domain ≡ true
-  fits l t = holds (legal_fit P few l t)
+  fits l t = holds (legal_fit P (few f fine) l t)
 
   -- Marks at a position that shows legal plays, by whether a variable is left.
   marks_by_lem : (l : List ℕ) (set words : ℕ) → set ≤ greatest_set → room_needed P ≤ words → T (legal P l) → (b : Bool) → ltb (length l) P.n ≡ b

@@ -60,8 +60,5 @@ pub fn replay(f: &[u8], calls: &[u8], set: usize, room: &mut [u16]) -> Replayed
     let p = reached(f, start, calls);
     let opened = open_values(f, p);
     let marks = mark(f, p, set, room);
-    Replayed {
-        marks: marks,
-        opened: opened,
-    }
+    Replayed { marks, opened }
 }

@@ -3,7 +3,7 @@ ghost use Rattle.std.specs.Prelude.{◌≡◌, ◌≤◌, length};
 ghost use Rattle.file_writer.specs.Writing.{told};
 ghost use Rattle.host.specs.Text.{fit_told, fit_left, text_told, text_left};
 
-use buffer::put;
+use buffer::Text;
 use refusal::{Reason, needed};
 use reporting::report_file;
 
@@ -13,7 +13,9 @@ fn fitted(buf: &mut [u8], text: &[u8]) -> Result<usize, Reason>
     ensures buf_after { buf.new ≡ fit_left text.now buf.old }
 {
     needed(text.len() <= buf.len(), Reason::Room)?;
-    Ok(put(buf, 0, text))
+    let mut t = Text::new(buf);
+    t.put(text);
+    Ok(t.at)
 }
 
 pub fn text_of(f: &[u8], buf: &mut [u8]) -> Result<usize, Reason>

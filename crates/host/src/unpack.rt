@@ -23,6 +23,6 @@ pub fn unpacked(plays: u64, a: u64, b: u64, c: u64, d: u64) -> Position
     }
     Position {
         plays: plays as usize,
-        values: values,
+        values,
     }
 }

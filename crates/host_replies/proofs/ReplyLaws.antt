@@ -1,12 +1,13 @@
 -- Each reply as the code makes it of an answer: kind, number and place of the answer, the values of a finished one, and else zeros.
 use mathlib.Core.Path.{◌≡◌, refl}
 use mathlib.Core.Bool.{Bool, true, false, cond}
-use mathlib.Core.List.{List, [], ◌∷◌}
+use mathlib.Core.List.{[], ◌∷◌}
 use Prim.Native.Nat.{ℕ}
 use mir.Val.{bool_byte}
 use lib.ListN.{replicate}
 use Rattle.std.specs.Prelude.{Result, Ok, Err, Option, None, Some, unwrap_or, is_some}
-use Rattle.std.specs.Result.{result_unwrap_or}
+use Rattle.std.specs.Option.{UnwrapsOrElse}
+use Rattle.std.specs.Result.{result_unwrap_or, ResultUnwrapsOrElse}
 use Rattle.refusal.specs.declared.reason.Refusal.{Refusal}
 use Rattle.refusal.specs.declared.reason.Refusal.TheVariants.{InFile, InCall}
 use Rattle.refusal.specs.Told.{refusal_told, told_by}
@@ -14,6 +15,8 @@ use Rattle.file_lookup.specs.Lookup.{told as toldFound}
 use Rattle.game.specs.Lists.{spread}
 use Rattle.session.specs.declared.Opened.{Opened}
 use Rattle.session.specs.Told.{told_opened, masks_in, counts_in}
+use Rattle.search_steps.specs.declared.Outcome.TheVariants.{Lost}
+use Rattle.search_steps.specs.TurnReply.{won_of, loss_of, set_of}
 use Rattle.search_run.specs.declared.Ran.{Ran}
 use Rattle.judging.specs.Judging.{told as toldJudged}
 use Rattle.judging.specs.Searching.{found, findings_of, nothing}
@@ -77,14 +80,13 @@ judgement (Ok false) = refl
 judgement (Err (InFile f)) = refl
 judgement (Err (InCall e)) = refl
 
-pub marks : (r : Result Marked Refusal) →
+pub marks : (r : Result Marked Refusal) (m : Marked) → ResultUnwrapsOrElse r (λ z. (z.winning ≡ 0) × (z.domain ≡ 0)) m →
     let a = head_of r in
-    let m = result_unwrap_or r (record { winning = 0; domain = 0 }) in
     ◌≡◌ {A = Marks} (record { kind = a.kind; number = a.number; place = a.place; winning = m.winning; domain = m.domain }) (marks_of (toldMarked r))
 unfolding marks_of answer_of kind_of number_of place_of value_of
-marks (Ok m) = refl
-marks (Err (InFile f)) = refl
-marks (Err (InCall e)) = refl
+marks (Ok x) m d = rw d refl
+marks (Err (InFile f)) m d = rw (d.0, d.1) refl
+marks (Err (InCall e)) m d = rw (d.0, d.1) refl
 
 -- A flag as a number.
 flag : (b : Bool) → bool_byte b ≡ cond b 1 0
@@ -93,10 +95,10 @@ flag false = refl
 
 pub findings : (r : Result Ran Refusal) →
     let a = head_of r in
-    let s = result_unwrap_or r (record { loss = false; list = replicate 32 0; won = false; conflict = 0; leaf = replicate 32 0 }) in
-    ◌≡◌ {A = SearchFindings} (record { kind = a.kind; number = a.number; place = a.place; won = bool_byte s.won; loss = bool_byte s.loss; conflict = s.conflict; list = s.list; leaf = s.leaf }) (searched_of (found r))
+    let s = result_unwrap_or r (record { outcome = Lost false 0; list = replicate 32 0; leaf = replicate 32 0 }) in
+    ◌≡◌ {A = SearchFindings} (record { kind = a.kind; number = a.number; place = a.place; won = bool_byte (won_of s.outcome); loss = bool_byte (loss_of s.outcome); conflict = set_of s.outcome; list = s.list; leaf = s.leaf }) (searched_of (found r))
 unfolding spread findings_of nothing searched_of answer_of kind_of number_of place_of value_of
-findings (Ok s) = rw (flag s.won, flag s.loss) refl
+findings (Ok s) = rw (flag (won_of s.outcome), flag (loss_of s.outcome)) refl
 findings (Err (InFile f)) = refl
 findings (Err (InCall e)) = refl
 
@@ -119,16 +121,15 @@ checked_list (Ok (Some j)) = refl
 checked_list (Err (InFile f)) = refl
 checked_list (Err (InCall e)) = refl
 
-pub looked_ahead : (r : Result (Option Ahead) Refusal) →
+pub looked_ahead : (r : Result (Option Ahead) Refusal) (h : Ahead) → UnwrapsOrElse (result_unwrap_or r None) (λ z. (z.value ≡ 0) × (z.variable ≡ 0)) h →
     let a = head_of r in
     let named = result_unwrap_or r None in
-    let h = unwrap_or named (record { value = 0; variable = 0 }) in
     ◌≡◌ {A = LookedAhead} (record { kind = a.kind; number = a.number; place = a.place; lost = bool_byte (is_some named); value = h.value; variable = h.variable }) (looked_of (told_look r))
 unfolding looked_of answer_of kind_of number_of place_of value_of
-looked_ahead (Ok None) = refl
-looked_ahead (Ok (Some h)) = refl
-looked_ahead (Err (InFile f)) = refl
-looked_ahead (Err (InCall e)) = refl
+looked_ahead (Ok None) h d = rw (d.0, d.1) refl
+looked_ahead (Ok (Some x)) h d = rw d refl
+looked_ahead (Err (InFile f)) h d = rw (d.0, d.1) refl
+looked_ahead (Err (InCall e)) h d = rw (d.0, d.1) refl
 
 pub value_mask : (r : Result ℕ Refusal) →
     let a = head_of r in
@@ -138,11 +139,10 @@ value_mask (Ok m) = refl
 value_mask (Err (InFile f)) = refl
 value_mask (Err (InCall e)) = refl
 
-pub formula_judgement : (r : Result JudgedFormula Refusal) →
+pub formula_judgement : (r : Result JudgedFormula Refusal) (j : JudgedFormula) → ResultUnwrapsOrElse r (λ z. (z.won ≡ false) × (z.length ≡ 0)) j →
     let a = head_of r in
-    let j = result_unwrap_or r (record { won = false; length = 0 }) in
     ◌≡◌ {A = FormulaJudgement} (record { kind = a.kind; number = a.number; place = a.place; won = bool_byte j.won; length = j.length }) (formula_judgement_of (told_judged r))
 unfolding formula_judgement_of answer_of kind_of number_of place_of value_of
-formula_judgement (Ok j) = rw (flag j.won) refl
-formula_judgement (Err (InFile f)) = refl
-formula_judgement (Err (InCall e)) = refl
+formula_judgement (Ok x) j d = rw (d, flag x.won) refl
+formula_judgement (Err (InFile f)) j d = rw (d.0, d.1) refl
+formula_judgement (Err (InCall e)) j d = rw (d.0, d.1) refl

@@ -82,8 +82,8 @@ impl From<Result<Opened, Refusal>> for OpenMasks {
             kind: a.kind,
             number: a.number,
             place: a.place,
-            masks: masks,
-            counts: counts,
+            masks,
+            counts,
         }
     }
 }

@@ -62,7 +62,7 @@ impl From<Result<Reading, Fault>> for ReadFile {
                     universal: head.universal as u64,
                     given: rules.is_some() as u64,
                     rules: rules_used(rules) as u64,
-                    domains: domains,
+                    domains,
                 }
             }
             Err(fault) => ReadFile {

@@ -23,10 +23,7 @@ impl From<Result<JudgedFormula, Refusal>> for FormulaJudgement {
 
     fn from(answer: Result<JudgedFormula, Refusal>) -> FormulaJudgement {
         let a = CallAnswer::from(answer);
-        let j = answer.unwrap_or(JudgedFormula {
-            won: false,
-            length: 0,
-        });
+        let j = answer.unwrap_or_default();
         FormulaJudgement {
             kind: a.kind,
             number: a.number,

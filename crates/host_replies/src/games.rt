@@ -10,6 +10,7 @@ use crate::calls::{CallAnswer, OpenMasks};
 use history::Replayed;
 use refusal::Refusal;
 use search_run::Ran;
+use search_steps::Outcome;
 
 #[repr(C)]
 #[derive(Clone, Copy)]
@@ -70,10 +71,7 @@ impl From<Result<marking::Marks, Refusal>> for Marks {
 
     fn from(answer: Result<marking::Marks, Refusal>) -> Marks {
         let a = CallAnswer::from(answer);
-        let m = answer.unwrap_or(marking::Marks {
-            winning: 0,
-            domain: 0,
-        });
+        let m = answer.unwrap_or_default();
         Marks {
             kind: a.kind,
             number: a.number,
@@ -89,28 +87,25 @@ impl From<Result<Ran, Refusal>> for SearchFindings {
 
     fn from(answer: Result<Ran, Refusal>) -> SearchFindings {
         let a = CallAnswer::from(answer);
-        let Ran {
-            loss,
-            list,
-            won,
-            conflict,
-            leaf,
-        } = answer.unwrap_or(Ran {
-            loss: false,
+        let ran = answer.unwrap_or(Ran {
+            outcome: Outcome::Lost {
+                by_rules: false,
+                conflict: 0,
+            },
             list: [0; 32],
-            won: false,
-            conflict: 0,
             leaf: [0; 32],
         });
+        let list = ran.list;
+        let leaf = ran.leaf;
         SearchFindings {
             kind: a.kind,
             number: a.number,
             place: a.place,
-            won: won as u64,
-            loss: loss as u64,
-            conflict: conflict as u64,
-            list: list,
-            leaf: leaf,
+            won: ran.outcome.is_won() as u64,
+            loss: ran.outcome.by_rules() as u64,
+            conflict: ran.outcome.conflict() as u64,
+            list,
+            leaf,
         }
     }
 }

@@ -25,10 +25,7 @@ impl From<Result<Option<Ahead>, Refusal>> for LookedAhead {
     fn from(answer: Result<Option<Ahead>, Refusal>) -> LookedAhead {
         let a = CallAnswer::from(answer);
         let named = answer.unwrap_or(None);
-        let h = named.unwrap_or(Ahead {
-            value: 0,
-            variable: 0,
-        });
+        let h = named.unwrap_or_default();
         LookedAhead {
             kind: a.kind,
             number: a.number,

@@ -1,15 +1,14 @@
-// The judging program: a problem file on standard input, what document 01 shows for G1 on standard output, by `reporting`. The longest
-// file has 17,994 bytes (`longest`, file_reader/proofs/Longest.antt), and at most one byte more is read: the first 17,995 bytes of any
-// input have the text of all of it (`report_tail`, reporting/proofs/LongInput.antt).
+// The judging program: a problem file on standard input, what document 01 shows for G1 on standard output, by `reporting`. No more than
+// `INPUT` bytes are read: the first so many of any input have the text of all of it (`report_tail`, reporting/proofs/LongInput.antt).
 #![tactic(auto)]
 
 use reporting::report_file;
-use standard_input::{read_full, zeros};
+use standard_input::{INPUT, read_full, zeros};
 use std::io;
 use std::io::{Input, Write};
 
 fn main(rt: HostRuntime) -> io::Result<()> {
-    let mut input: [u8; 17995] = zeros();
+    let mut input: [u8; INPUT] = zeros();
     let n = read_full(&mut rt.reader(), &mut input)?;
     let mut text = [0u8; 1024];
     let k = report_file(&input[..n], &mut text);

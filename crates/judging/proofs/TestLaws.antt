@@ -31,11 +31,6 @@ pub room_held : (P : Problem) → P.n ≤ 32 → room_test (room_needed P) held_
 unfolding room_test
 room_held P h = need_ok _ _ (le-leb (room_needed P) held_room (omega arith))
 
--- The room needed by its number.
-pub place_with : (n : ℕ) (masks : List ℕ) (p : Position) (words : ℕ) (v : Test) (needed k : ℕ) → v ≡ place_test n masks p needed words → needed ≡ k
-    → v ≡ place_test n masks p k words
-place_with n masks p words v needed k t e = t ∙ ap (λ (k : ℕ). place_test n masks p k words) e
-
 -- v being the verdict.
 pub place_fine : (n : ℕ) (masks : List ℕ) (p : Position) (needed words : ℕ) (v : Test) → v ≡ place_test n masks p needed words → v ≡ Fine
     → T (fits_in p n masks) × (needed ≤ words)

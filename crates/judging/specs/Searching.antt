@@ -10,6 +10,7 @@ use Rattle.game.specs.Search.{is_solved, search_from}
 use Rattle.file_decoder.specs.Read.{read_first}
 use Rattle.position.specs.declared.Position.{Position}
 use Rattle.position.specs.Position.{plays_of}
+use Rattle.search_steps.specs.TurnReply.{won_of, loss_of, set_of}
 use Rattle.search_run.specs.declared.Ran.{Ran}
 use Rattle.search_run.specs.Run.{room_needed, leaf_shown, conflict_shown}
 use Rattle.judging.specs.Tests.{judge_test}
@@ -25,7 +26,7 @@ pub record Findings : Type 0 where
 
 -- Those of a run; a refused call finds nothing.
 unfoldable pub findings_of : Ran → Findings
-findings_of r = record { told = replied (cond r.won 1 0 ∷ []); loss = r.loss; list = r.list; conflict = r.conflict; leaf = r.leaf }
+findings_of r = record { told = replied (cond (won_of r.outcome) 1 0 ∷ []); loss = loss_of r.outcome; list = r.list; conflict = set_of r.outcome; leaf = r.leaf }
 
 unfoldable pub nothing : Told → Findings
 nothing t = record { told = t; loss = false; list = spread []; conflict = 0; leaf = spread [] }

@@ -14,7 +14,7 @@ use file_decoder::decode;
 use position::Position;
 use refusal::{Reason, Refusal};
 use rule_set::RuleSet;
-use search_run::{Ran, Start, room_needed, run};
+use search_run::{Ran, Start, run};
 use solver_arrays::Arrays;
 use tests::place_test;
 pub use tests::room_test;
@@ -25,13 +25,7 @@ fn search_with(arrays: &Arrays, p: Position, set: RuleSet, room: &mut [u16]) -> 
     ensures { Places arrays.now p set.bits
         room.old room.new result }
 {
-    place_test(
-        arrays.own,
-        &arrays.domains,
-        p,
-        room_needed(arrays.n),
-        room.len(),
-    )?;
+    place_test(arrays, p, room)?;
     Ok(run(arrays, Start { set, position: p }, room))
 }
 
@@ -61,5 +55,5 @@ pub fn judge(f: &[u8], p: Position, set: usize, room: &mut [u16]) -> Result<bool
     ensures room_after { room.new ≡ judge_left f.now p set room.old }
 {
     let r = search(f, p, set, room)?;
-    Ok(r.won)
+    Ok(r.outcome.is_won())
 }

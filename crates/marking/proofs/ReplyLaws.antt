@@ -39,11 +39,6 @@ use Rattle.marking.specs.declared.Marks.{Marks}
 use Rattle.marking.specs.Marks.{Wins}
 use Rattle.marking.specs.Marking.{mark_values, mark_test, mark_place_test, mark_reply, mark_room, mark_told, mark_left, MarksBy, MarksWith, MarksIn}
 
--- The room needed by its number.
-pub place_with : (n : ℕ) (masks : List ℕ) (p : Position) (words : ℕ) (v : Test) (needed k : ℕ) → v ≡ mark_place_test n masks p needed words → needed ≡ k
-    → v ≡ mark_place_test n masks p k words
-place_with n masks p words v needed k t e = t ∙ ap (λ (k : ℕ). mark_place_test n masks p k words) e
-
 -- What fine tests say.
 pub place_fine : (n : ℕ) (masks : List ℕ) (p : Position) (needed words : ℕ) (v : Test) → v ≡ mark_place_test n masks p needed words → v ≡ Fine
     → T (fits_in p n masks) × (p.plays < n) × (needed ≤ words)

@@ -4,39 +4,34 @@
 
 ghost use Rattle.std.specs.Prelude.{◌≡◌, length};
 ghost use Rattle.solver_arrays.specs.Arrays.{Posed};
+ghost use Rattle.search_run.specs.Run.{room_words};
 ghost use Rattle.marking.specs.Marking.{told, mark_place_test, mark_told, mark_left, MarksWith, MarksIn};
 
 mod values;
 
 use file_decoder::decode;
 use judging::room_test;
-use position::{Position, fits};
+use position::{Position, fit_test};
 use refusal::{Reason, Refusal, needed};
 use rule_set::RuleSet;
-use search_run::{Start, room_needed};
+use search_run::Start;
 use solver_arrays::Arrays;
 use values::winning_values;
 
 // The winning values of a position's next variable, and its domain.
-#[derive(Clone, Copy)]
+#[derive(Clone, Copy, Default)]
 pub struct Marks {
     pub winning: u16,
     pub domain: u16,
 }
 
 // The tests of marking behind the rule set: 23, 22, 12.
-fn mark_test(
-    n: usize,
-    domains: &[u16; 32],
-    p: Position,
-    room: usize,
-    words: usize,
-) -> Result<(), Reason>
-    ensures { result ≡ mark_place_test n domains.now p room words }
+fn mark_test(arrays: &Arrays, p: Position, room: &[u16]) -> Result<(), Reason>
+    ensures { result ≡ mark_place_test arrays.now.own arrays.now.domains p (room_words arrays.now.n) (length room.now) }
 {
-    needed(fits(p, n, domains), Reason::Misfit)?;
-    needed(p.plays < n, Reason::Done)?;
-    room_test(room, words)
+    fit_test(arrays.own, &arrays.domains, p)?;
+    needed(p.plays < arrays.own, Reason::Done)?;
+    room_test(arrays, room)
 }
 
 // Marks under a rule set over the arrays of a problem.
@@ -45,13 +40,7 @@ fn mark_with(arrays: &Arrays, p: Position, set: RuleSet, room: &mut [u16]) -> Re
     ensures { MarksWith arrays.now p set.bits
         room.old room.new result }
 {
-    mark_test(
-        arrays.own,
-        &arrays.domains,
-        p,
-        room_needed(arrays.n),
-        room.len(),
-    )?;
+    mark_test(arrays, p, room)?;
     Ok(winning_values(arrays, Start { set, position: p }, room))
 }
 

@@ -22,7 +22,7 @@ fn wins_with(arrays: &Arrays, s: Start, a: usize, room: &mut [u16]) -> bool
         position: pushed(s.position, a as u8),
         ..s
     };
-    run(arrays, then, room).won
+    run(arrays, then, room).outcome.is_won()
 }
 
 // The values of the next variable that win, and its domain.

@@ -18,7 +18,7 @@ use Rattle.mask.specs.Range.{some, each, count, first}
 use Rattle.mask.specs.Mask.{bit}
 use Rattle.mask.specs.Upward.{Took, TakesLowest}
 use Rattle.mask.proofs.Logic.{and_out, by_lt, clash, true_holds}
-use Rattle.mask.proofs.Range.{count_none}
+use Rattle.mask.proofs.Range.{count_none, first_least}
 use Rattle.mask.proofs.Bits.{bit_high, bit_of_zero}
 use Rattle.mask.proofs.Members.{rest_lt, low_lt, low_in, bit-rest, count-rest, some-rest, each-rest, each_end, some_end, each_next, each-stop, some_next, some-stop, first_found, first_on, first-empty}
 
@@ -29,6 +29,10 @@ module _ {w m j v : ℕ} (t : Took w m j v) where
 
   pub took_in : T (bit m j)
   took_in = rw t.low (low_in w m t.fits t.some)
+
+  -- None is below it.
+  pub none_below : (x : ℕ) → x < j → bit m x ≡ false
+  none_below x h = first_least w (bit m) x (rw (← t.low) h)
 
   -- What is left was there before.
   pub member_left : (x : ℕ) → T (bit v x) → T (bit m x)

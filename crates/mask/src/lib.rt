@@ -46,10 +46,12 @@ pub fn meet(m: u16, w: u16) -> u16
 }
 
 // The values of m that w lacks.
-pub fn difference(m: u16, w: u16) -> u16
-    ensures { result ≡ diff m w }
+pub fn difference<M: Mask>(m: M, w: M) -> M
+    ensures { M.number result ≡ diff (M.number m) (M.number w) }
 {
-    m ^ (m & w)
+    let a = m.wide();
+    let b = w.wide();
+    M::narrow(a ^ (a & b))
 }
 
 // Whether w holds every value of m.

@@ -24,7 +24,7 @@ pub trait Mask: Copy {
     fn zeros(self) -> u32
         ensures { result ≡ first width (bit (number self)) };
 
-    // Whether value k is in the word.
+    // Whether value k is in the word: by the word itself, since over its number decoding takes three times as long.
     fn holds(self, k: usize) -> bool
         requires { k < width }
         ensures { result ≡ bit (number self) k };

@@ -3,6 +3,8 @@
 use Rattle.std.specs.Prelude.{◌≡◌, Bool, true, cond, ◌&&◌, List, ℕ, ◌+◌, ◌-◌, ◌^◌, eqb, ltb, leb, get_or, length, take, drop, set}
 use Rattle.mask.specs.Range.{each}
 use Rattle.mask.specs.Mask.{bit}
+use Rattle.refusal.specs.declared.reason.Reason.TheVariants.{Misfit}
+use Rattle.refusal.specs.Chain.{Test, need}
 use Rattle.game.specs.Problem.{Problem}
 use Rattle.game.specs.Lists.{spread}
 use Rattle.game.specs.Position.{position}
@@ -36,6 +38,9 @@ fits_at p masks i = place_fits p.plays i (get_or masks i 0) (get_or p.values i 0
 -- holds of a position that is none of these. Places from n on are unplayed, and a mask holds no option above 15.
 unfoldable pub fits_in : Position → ℕ → List ℕ → Bool
 fits_in p n masks = leb p.plays n && each 32 (λ i. true) (fits_at p masks)
+
+unfoldable pub fit_test : ℕ → List ℕ → Position → Test
+fit_test n masks p = need (fits_in p n masks) Misfit
 
 -- The mask of place i in a position: the option played alone, elsewhere the file's mask.
 unfoldable pub place_mask : ℕ → ℕ → ℕ → ℕ → ℕ

@@ -4,13 +4,14 @@
 
 ghost use Rattle.std.specs.Prelude.{◌≡◌, [], ◌≤◌, ◌<◌, T, length};
 ghost use Rattle.mask.specs.Mask.{bit};
-ghost use Rattle.position.specs.Position.{shown, pushed, popped, place_fits, fits_in, place_mask, Written};
+ghost use Rattle.position.specs.Position.{shown, pushed, popped, place_fits, fits_in, fit_test, place_mask, Written};
 
 use mask::{contains, single};
+use refusal::{Reason, needed};
 
 // The options played, in order of play, and zero elsewhere. C hosts hand it in and get it back.
 #[repr(C)]
-#[derive(Clone, Copy)]
+#[derive(Clone, Copy, PartialEq, Eq)]
 pub struct Position {
     pub plays: usize,
     pub values: [u8; 32],
@@ -66,11 +67,18 @@ fn place_fits(plays: usize, i: usize, m: u16, value: u8) -> bool
 }
 
 // Not a misfit.
-pub fn fits(p: Position, n: usize, domains: &[u16; 32]) -> bool
+fn fits(p: Position, n: usize, domains: &[u16; 32]) -> bool
     ensures { result ≡ fits_in p n domains.now }
 {
     let few = p.plays <= n;
     few && (0..32).all(|i| place_fits(p.plays, i, domains[i], p.values[i]))
+}
+
+// The refusal of a misfit.
+pub fn fit_test(n: usize, domains: &[u16; 32], p: Position) -> Result<(), Reason>
+    ensures { result ≡ fit_test n domains.now p }
+{
+    needed(fits(p, n, domains), Reason::Misfit)
 }
 
 fn place_mask(plays: usize, i: usize, m: u16, value: u8) -> u16

@@ -47,7 +47,7 @@ impl Reason {
     {
         Fault {
             reason: self,
-            place: place,
+            place,
         }
     }
 }

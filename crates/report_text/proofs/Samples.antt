@@ -2,9 +2,8 @@
 use mathlib.Core.Path.{◌≡◌, refl}
 use mathlib.Core.Bool.{true}
 use mathlib.Core.List.{[], ◌∷◌, ◌++◌}
-use Rattle.buffer.specs.Stored.{joined}
 use Rattle.mask.specs.Mask.{bit}
-use Rattle.buffer.specs.Stored.{together}
+use Rattle.buffer.specs.Stored.{joined, together}
 use Rattle.buffer.specs.Decimal.{digit, spelled, decimal}
 use Rattle.report_text.specs.Text.{number_line, verdict_text, side_of, mark_of, answer_line, next_line, option_line, option_text, options_text, head_text, reply_text, refused_text}
 

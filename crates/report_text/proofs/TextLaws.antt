@@ -5,10 +5,13 @@ use mathlib.Core.List.{List, [], ◌∷◌}
 use lib.ListN.{length, length-append}
 use native.Mathlib.Omega.{arith}
 use Rattle.mask.specs.Mask.{bit}
-use Rattle.buffer.specs.Stored.{joined}
-use Rattle.buffer.specs.Stored.{together}
+use Rattle.refusal.specs.declared.reason.Reason.{Reason}
+use Rattle.refusal.specs.declared.reason.Reason.TheVariants.{Short, Mark, Count, Domain, Pair, Order, Stray, Rules, Tail, Value, Variable, Room, Lent, Full, Bare, Done, Misfit}
+use Rattle.refusal.specs.declared.reason.Fault.{Fault}
+use Rattle.refusal.specs.Reason.{number_of}
+use Rattle.buffer.specs.Stored.{joined, together}
 use Rattle.buffer.specs.Decimal.{decimal}
-use Rattle.report_text.specs.Text.{choices_label, tables_label, rules_label, verdict_text, side_of, mark_of, number_line, answer_line, next_line, option_line, option_text, options_text, head_text, reply_text, refused_text}
+use Rattle.report_text.specs.Text.{choices_label, tables_label, rules_label, verdict_text, side_of, mark_of, number_line, answer_line, next_line, option_line, option_text, options_text, head_text, reply_text, refused_text, fault_text}
 use Rattle.buffer.proofs.DecimalLaws.{decimal_short}
 
 -- A part and the others behind it.
@@ -82,3 +85,27 @@ pub refused_long : (number place : ℕ) → number < 10 ^ 20 → place < 10 ^ 20
 unfolding refused_text
 refused_long number place h i =
     long 8 45 _ _ (omega arith) (long 20 25 _ _ (digits number h) (long 4 21 _ _ (omega arith) (long 20 1 _ _ (digits place i) (long 1 0 _ _ (omega arith) none))))
+
+-- Every reason's number is below 24.
+number_small : (e : Reason) → number_of e ≤ 23
+number_small Short = omega arith
+number_small Mark = omega arith
+number_small Count = omega arith
+number_small Domain = omega arith
+number_small Pair = omega arith
+number_small Order = omega arith
+number_small Stray = omega arith
+number_small Rules = omega arith
+number_small Tail = omega arith
+number_small Value = omega arith
+number_small Variable = omega arith
+number_small Room = omega arith
+number_small Lent = omega arith
+number_small Full = omega arith
+number_small Bare = omega arith
+number_small Done = omega arith
+number_small Misfit = omega arith
+
+pub fault_long : (e : Fault) → e.place < 10 ^ 20 → length (fault_text e) ≤ 53
+unfolding fault_text
+fault_long e h = refused_long _ _ (omega (arith, number_small e.reason)) h

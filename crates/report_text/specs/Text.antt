@@ -1,9 +1,11 @@
 -- What the judging program prints, in ASCII, line by line.
 use Rattle.std.specs.Prelude.{ℕ, Bool, cond, List, [], ◌∷◌}
 use Rattle.mask.specs.Mask.{bit}
-use Rattle.buffer.specs.Stored.{joined}
-use Rattle.buffer.specs.Stored.{together}
+use Rattle.refusal.specs.declared.reason.Fault.{Fault}
+use Rattle.refusal.specs.Reason.{number_of}
+use Rattle.buffer.specs.Stored.{joined, together}
 use Rattle.buffer.specs.Decimal.{decimal}
+use Rattle.report_text.specs.declared.Report.{Report}
 
 -- "choices "
 abbrev pub choices_label : List ℕ
@@ -108,6 +110,12 @@ unfoldable pub reply_text : ℕ → ℕ → ℕ → Bool → ℕ → Bool → �
 reply_text n m set won next universal domain winning =
     together (head_text n m set ∷ answer_line won ∷ next_line next universal ∷ options_text domain winning 16 ∷ [])
 
+unfoldable pub text_of : Report → List ℕ
+text_of r = reply_text r.n r.m r.set r.won r.next r.universal r.domain r.winning
+
 -- The one line for a refused file.
 unfoldable pub refused_text : ℕ → ℕ → List ℕ
 refused_text number place = together (refused_label ∷ decimal number ∷ at_label ∷ decimal place ∷ line_end ∷ [])
+
+unfoldable pub fault_text : Fault → List ℕ
+fault_text e = refused_text (number_of e.reason) e.place

@@ -1,47 +1,56 @@
-// What the judging program prints, formed in a buffer (document 01, "G1 in hex"). It rests on `buffer`. `render_reply` and
-// `render_refusal` are for `reporting` and alone require that the text fits; proofs/TextLaws.antt says how long it is at most.
+// What the judging program prints, formed in a buffer (document 01, "G1 in hex"). It rests on `buffer` and `refusal`. `render_reply` is
+// for `reporting`, `render_refusal` for `to_qdimacs` too; they alone require that the text fits: proofs/TextLaws.antt says how long it is
+// at most.
 #![tactic(auto)]
 
 ghost use Rattle.std.specs.Prelude.{◌≡◌, ◌++◌, ◌≤◌, length, drop};
-ghost use Rattle.report_text.specs.Text.{reply_text, refused_text};
+ghost use Rattle.report_text.specs.Text.{text_of, fault_text};
 
 mod lines;
 
-use buffer::{put, put_number};
+use buffer::Text;
 use lines::{put_answer, put_head, put_next, put_options};
+use refusal::Fault;
+
+// What is printed of an accepted file: its variables and constraints, the rule set used, the verdict, the next variable and whether it is
+// universal, that variable's domain and its winning values.
+#[derive(Clone, Copy)]
+pub struct Report {
+    pub n: usize,
+    pub m: usize,
+    pub set: usize,
+    pub won: bool,
+    pub next: usize,
+    pub universal: bool,
+    pub domain: u16,
+    pub winning: u16,
+}
 
 // The text for an accepted file; replies its length.
-pub fn render_reply(
-    n: usize,
-    m: usize,
-    set: usize,
-    won: bool,
-    next: usize,
-    universal: bool,
-    domain: u16,
-    winning: u16,
-    out: &mut [u8],
-) -> usize
-    requires { length (reply_text n m set won next universal domain winning) ≤ length out.old }
-    ensures value { result ≡ length (reply_text n m set won next universal domain winning) }
-    ensures out_after { out.new ≡ reply_text n m set won next universal domain winning ++ drop
-        (length (reply_text n m set won next universal domain winning)) out.old }
+pub fn render_reply(report: Report, out: &mut [u8]) -> usize
+    requires { length (text_of report) ≤ length out.old }
+    ensures value { result ≡ length (text_of report) }
+    ensures out_after { out.new ≡ text_of report ++ drop (length (text_of report)) out.old }
 {
-    let a = put_head(out, n, m, set);
-    let b = put_answer(out, a, won);
-    let c = put_next(out, b, next, universal);
-    put_options(out, c, domain, winning)
+    let mut t = Text::new(out);
+    put_head(&mut t, report.n, report.m, report.set);
+    put_answer(&mut t, report.won);
+    put_next(&mut t, report.next, report.universal);
+    put_options(&mut t, report.domain, report.winning);
+    t.at
 }
 
 // The line for a refused file; replies its length.
-pub fn render_refusal(number: usize, place: usize, out: &mut [u8]) -> usize
-    requires { length (refused_text number place) ≤ length out.old }
-    ensures value { result ≡ length (refused_text number place) }
-    ensures out_after { out.new ≡ refused_text number place ++ drop (length (refused_text number place)) out.old }
+pub fn render_refusal(fault: Fault, out: &mut [u8]) -> usize
+    requires { length (fault_text fault) ≤ length out.old }
+    ensures value { result ≡ length (fault_text fault) }
+    ensures out_after { out.new ≡ fault_text fault ++ drop (length (fault_text fault)) out.old }
 {
-    let a = put(out, 0, b"refused ");
-    let b = put_number(out, a, number);
-    let c = put(out, b, b" at ");
-    let d = put_number(out, c, place);
-    put(out, d, b"\n")
+    let mut t = Text::new(out);
+    t.put(b"refused ");
+    t.put_number(u8::from(fault.reason) as usize);
+    t.put(b" at ");
+    t.put_number(fault.place);
+    t.put(b"\n");
+    t.at
 }

@@ -4,7 +4,8 @@ use mathlib.Core.List.{List}
 use Prim.Native.Nat.{ℕ}
 use lib.ListN.{take}
 use Rattle.file_reader.proofs.Longest.{reply_tail}
-use Rattle.reporting.specs.Reporting.{fault_text, report_of}
+use Rattle.report_text.specs.Text.{fault_text}
+use Rattle.reporting.specs.Reporting.{report_of}
 use Rattle.reporting.proofs.ReportLaws.{refused-text}
 
 pub report_tail : (f : List ℕ) → report_of (take 17995 f) ≡ report_of f

@@ -1,6 +1,6 @@
 -- What judging and marking tell before any play, and the text of an accepted file.
 use Prim.Native.Nat.{ℕ, ◌≤◌, ◌<◌}
-use mathlib.Core.Path.{◌≡◌, refl, sym, ap, subst, ◌∙◌}
+use mathlib.Core.Path.{◌≡◌, refl, sym, ap, ap₂, subst, ◌∙◌}
 use mathlib.Core.Bool.{Bool, true, false, cond}
 use mathlib.Core.List.{List, [], ◌∷◌, ◌++◌}
 use native.Mathlib.Omega.{arith}
@@ -11,7 +11,7 @@ use borrow.Author.Tests.{le-leb, lt-ltb}
 use Rattle.mask.specs.Mask.{bit}
 use Rattle.mask.proofs.Logic.{holds}
 use Rattle.std.specs.Prelude.{Result, Ok, Err}
-use Rattle.std.specs.Result.{result_unwrap_or}
+use Rattle.std.specs.Result.{result_unwrap_or, ResultUnwrapsOrElse}
 use Rattle.refusal.specs.declared.reason.Fault.{Fault}
 use Rattle.refusal.specs.declared.reason.Refusal.{Refusal}
 use Rattle.refusal.specs.declared.reason.Refusal.TheVariants.{InFile, InCall}
@@ -41,8 +41,8 @@ use Rattle.judging.specs.Judging.{told, judge_reply, judge_told}
 use Rattle.marking.specs.declared.Marks.{Marks}
 use Rattle.marking.specs.Marking.{mark_test, mark_reply, mark_told}
 use Rattle.marking.specs.Marking.{told as toldMarks}
-use Rattle.report_text.specs.Text.{reply_text}
-use Rattle.reporting.specs.Reporting.{problem_text, fault_text, report_of, Prints, ReportsAccepted}
+use Rattle.report_text.specs.Text.{reply_text, fault_text}
+use Rattle.reporting.specs.Reporting.{problem_text, report_of, Prints, ReportsAccepted}
 
 -- ---- before any play the tests are fine
 
@@ -92,14 +92,11 @@ masks_in (replied (w ∷ d ∷ xs)) = record { winning = w; domain = d }
 masks_in (refused e) = record { winning = 0; domain = 0 }
 masks_in (refused_at e p) = record { winning = 0; domain = 0 }
 
-abbrev pub no_marks : Marks
-no_marks = record { winning = 0; domain = 0 }
-
-marks_in : (r : Result Marks Refusal) → result_unwrap_or r no_marks ≡ masks_in (toldMarks r)
+marks_in : (r : Result Marks Refusal) (m : Marks) → ResultUnwrapsOrElse r (λ z. (z.winning ≡ 0) × (z.domain ≡ 0)) m → m ≡ masks_in (toldMarks r)
 unfolding masks_in
-marks_in (Ok m) = refl
-marks_in (Err (InFile f)) = refl
-marks_in (Err (InCall e)) = refl
+marks_in (Ok x) m d = d
+marks_in (Err (InFile f)) m d = ap₂ (λ w x. record { winning = w; domain = x }) d.0 d.1
+marks_in (Err (InCall e)) m d = ap₂ (λ w x. record { winning = w; domain = x }) d.0 d.1
 
 module _ (f : List ℕ) (fine : verdict_of f ≡ Fine) (p : Position) (set words : ℕ) (fresh : p ≡ shown []) (long : words ≡ held_room) (rules : set ≤ greatest_set) where
   abbrev P : Problem
@@ -123,14 +120,14 @@ module _ (f : List ℕ) (fine : verdict_of f ≡ Fine) (p : Position) (set words
       ∙ rw (fresh, long) (ap (λ (t : Test). replied_for t (cond (verdict P []) 1 0 ∷ [])) (fresh_judge P set few rules)))
       ∙ one_says (verdict P [])
 
-  pub marks_first : (r : Result Marks Refusal) → toldMarks r ≡ mark_told f p set words → result_unwrap_or r no_marks ≡ record { winning = winning_values P []; domain = get_or P.domain 0 0 }
+  pub marks_first : (r : Result Marks Refusal) (m : Marks) → ResultUnwrapsOrElse r (λ z. (z.winning ≡ 0) × (z.domain ≡ 0)) m → toldMarks r ≡ mark_told f p set words → m ≡ record { winning = winning_values P []; domain = get_or P.domain 0 0 }
   unfolding mark_told mark_reply replied_for plays_of shown masks_in
-  marks_first r e =
+  marks_first r m d e =
       let t : toldMarks r ≡ replied (winning_values P [] ∷ get_or P.domain 0 0 ∷ []) =
       e
       ∙ read_fine f _ _ fine
       ∙ rw (fresh, long) (ap (λ (t : Test). replied_for t (winning_values P [] ∷ get_or P.domain 0 0 ∷ [])) (fresh_mark P set few rules some)) in
-      marks_in r ∙ ap masks_in t
+      marks_in r m d ∙ ap masks_in t
 
 -- ---- the texts
 
@@ -138,21 +135,21 @@ module _ (f : List ℕ) (fine : verdict_of f ≡ Fine) (p : Position) (set words
 pub holds_as : {l l' : List ℕ} {r : ℕ} (text other : List ℕ) → text ≡ other → r ≡ length text → l' ≡ text ++ drop (length text) l → Prints other l r l'
 holds_as {l} {l'} {r} text other e a b = subst (λ (t : List ℕ). Prints t l r l') e (record { ends = a; bytes = b })
 
-pub reply_same : (n m set : ℕ) (universal : Bool) {won won' : Bool} {d d' w w' : ℕ} → won ≡ won' → d ≡ d' → w ≡ w' → reply_text n m set won 0 universal d w ≡ reply_text n m set won' 0 universal d' w'
-reply_same n m set universal e g h = rw (e, g, h)
+pub reply_same : (n m : ℕ) {set set' : ℕ} {won won' universal universal' : Bool} {d d' w w' : ℕ} → set ≡ set' → won ≡ won' → universal ≡ universal' → d ≡ d' → w ≡ w'
+    → reply_text n m set won 0 universal d w ≡ reply_text n m set' won' 0 universal' d' w'
+reply_same n m s e u g h = rw (s, e, u, g, h)
 
 -- The text of an accepted file by the reading's numbers.
-accepted_text : (f : List ℕ) (h : Head) (s : Shows f h) (set : ℕ) (universal : Bool) → set ≡ rules_used h.rules → universal ≡ bit h.universal 0
-    → reply_text h.n h.m set (verdict (problem_of f s.fine) []) 0 universal (get_or (problem_of f s.fine).domain 0 0) (winning_values (problem_of f s.fine) []) ≡ report_of f
+accepted_text : (f : List ℕ) (h : Head) (s : Shows f h)
+    → reply_text h.n h.m (rules_used h.rules) (verdict (problem_of f s.fine) []) 0 (bit h.universal 0) (get_or (problem_of f s.fine).domain 0 0) (winning_values (problem_of f s.fine) []) ≡ report_of f
 unfolding report_of problem_text problem_of
-accepted_text f h s set universal e g =
-    rw (e, s.set, s.variables, s.constraints, g, s.bits, universal-shown f 0 (accepted f s.fine).head.counts.some) (sym (read_fine f _ _ s.fine))
+accepted_text f h s =
+    rw (s.set, s.variables, s.constraints, s.bits, universal-shown f 0 (accepted f s.fine).head.counts.some) (sym (read_fine f _ _ s.fine))
 
-pub accepted_holds : (f : List ℕ) (h : Head) → Shows f h → (set : ℕ) (universal : Bool) → set ≡ rules_used h.rules → universal ≡ bit h.universal 0
-    → (l : List ℕ) (r : ℕ) (l' : List ℕ) → ReportsAccepted f h.n h.m set universal l r l' → Prints (report_of f) l r l'
-accepted_holds f h s set universal e g l r l' o =
-    let k : set ≤ greatest_set = set_most set (rw (e, s.set) (used_set f s.fine)) in
-    subst (λ (t : List ℕ). Prints t l r l') (accepted_text f h s set universal e g) (o s.fine k)
+pub accepted_holds : {f l l' : List ℕ} {r : ℕ} (h : Head) → Shows f h → ReportsAccepted f h.n h.m (rules_used h.rules) (bit h.universal 0) l r l' → Prints (report_of f) l r l'
+accepted_holds {f} {l} {l'} {r} h s o =
+    let k : rules_used h.rules ≤ greatest_set = set_most _ (rw s.set (used_set f s.fine)) in
+    subst (λ (t : List ℕ). Prints t l r l') (accepted_text f h s) (o s.fine k)
 
 -- The text of a refused one.
 pub refused-text : (f : List ℕ) (e : Fault) → verdict_of f ≡ Err e → fault_text e ≡ report_of f

@@ -1,7 +1,5 @@
 -- What the judging program prints of the bytes of a file.
 use Rattle.std.specs.Prelude.{ℕ, ◌≤◌, ◌≡◌, Bool, List, [], ◌++◌, get_or, length, drop}
-use Rattle.refusal.specs.declared.reason.Fault.{Fault}
-use Rattle.refusal.specs.Reason.{number_of}
 use Rattle.refusal.specs.Chain.{Fine}
 use Rattle.rule_set.specs.RuleSet.{greatest_set}
 use Rattle.file_layout.specs.Layout.{m_of, rules_of}
@@ -12,15 +10,11 @@ use Rattle.game.specs.Winning.{verdict, winning_values}
 use Rattle.file_decoder.specs.FileProblem.{problem_of}
 use Rattle.file_decoder.specs.Read.{read_first}
 use Rattle.marking.specs.declared.Marks.{Marks}
-use Rattle.report_text.specs.Text.{reply_text, refused_text}
+use Rattle.report_text.specs.Text.{reply_text, fault_text}
 
 -- The text for a problem with m constraints, before any play.
 unfoldable pub problem_text : Problem → ℕ → ℕ → List ℕ
 problem_text P m set = reply_text P.n m set (verdict P []) 0 (P.universal 0) (get_or P.domain 0 0) (winning_values P [])
-
--- The line of a refused file.
-unfoldable pub fault_text : Fault → List ℕ
-fault_text e = refused_text (number_of e.reason) e.place
 
 -- The text for the bytes f.
 unfoldable pub report_of : List ℕ → List ℕ

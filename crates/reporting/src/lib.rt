@@ -3,30 +3,38 @@
 #![tactic(auto)]
 
 ghost use Rattle.std.specs.Prelude.{◌≡◌, ◌++◌, ◌≤◌, length, drop};
+ghost use Rattle.mask.specs.Mask.{bit};
+ghost use Rattle.file_reader.specs.Used.{rules_used as Used·rules_used};
 ghost use Rattle.reporting.specs.Reporting.{report_of, ReportsAccepted};
 
 mod opening;
 
-use file_reader::{read, rules_used};
+use file_reader::{Head, read, rules_used};
 use mask::contains;
 use opening::{first_marks, is_won};
-use report_text::{render_refusal, render_reply};
+use report_text::{Report, render_refusal, render_reply};
 
-// The text for an accepted file.
-fn report_accepted(
-    f: &[u8],
-    n: usize,
-    m: usize,
-    set: usize,
-    universal: bool,
-    out: &mut [u8; 1024],
-) -> usize
+// The text for an accepted file, by its reading's numbers.
+fn report_accepted(f: &[u8], head: Head, out: &mut [u8; 1024]) -> usize
     ensures upper_bound { result ≤ 1024 }
-    ensures reports_accepted { ReportsAccepted f.now n m set universal out.old result out.new }
+    ensures reports_accepted { ReportsAccepted f.now head.n head.m (Used·rules_used head.rules) (bit head.universal 0) out.old result
+        out.new }
 {
+    let set = rules_used(head.rules) as usize;
     let won = is_won(f, set);
     let k = first_marks(f, set);
-    render_reply(n, m, set, won, 0, universal, k.domain, k.winning, out)
+    let universal = contains(head.universal, 0);
+    let report = Report {
+        n: head.n as usize,
+        m: head.m as usize,
+        set,
+        won,
+        next: 0,
+        universal,
+        domain: k.domain,
+        winning: k.winning,
+    };
+    render_reply(report, out)
 }
 
 // The text for any bytes, at the start of the buffer; replies its length.
@@ -36,18 +44,7 @@ pub fn report_file(f: &[u8], out: &mut [u8; 1024]) -> usize
     ensures out_after { out.new ≡ report_of f.now ++ drop (length (report_of f.now)) out.old }
 {
     match read(f) {
-        Ok(r) => {
-            let head = r.head;
-            let rules = head.rules;
-            report_accepted(
-                f,
-                head.n as usize,
-                head.m as usize,
-                rules_used(rules) as usize,
-                contains(head.universal, 0),
-                out,
-            )
-        }
-        Err(fault) => render_refusal(u8::from(fault.reason) as usize, fault.place, out),
+        Ok(r) => report_accepted(f, r.head, out),
+        Err(fault) => render_refusal(fault, out),
     }
 }

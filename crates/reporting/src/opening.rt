@@ -1,4 +1,5 @@
-// The verdict before any play, and the marks of the first variable.
+// The verdict before any play, and the marks of the first variable. An `Err` cannot come, and its value stands for nothing: the file is
+// accepted and the room suffices.
 ghost use Rattle.reporting.specs.Reporting.{JudgesFirst, MarksFirst};
 
 use judging::judge;
@@ -19,8 +20,5 @@ pub fn first_marks(f: &[u8], set: usize) -> Marks
     ensures { MarksFirst f.now set result }
 {
     let mut room = [0u16; ROOM];
-    mark(f, fresh(), set, &mut room).unwrap_or(Marks {
-        winning: 0,
-        domain: 0,
-    })
+    mark(f, fresh(), set, &mut room).unwrap_or_default()
 }

@@ -15,6 +15,7 @@ use rule_arc_passes::{remove_dead, supported_of};
 use solver_arrays::{Arrays, Loss, reason};
 
 // Whether x is existential and its domain empty.
+#[tactic(auto, unfolding(crate::specs::Loss::emptied_in))]
 fn is_emptied(universal: u32, w: &[u16], x: usize) -> bool
     requires { (x < 32) × (96 ≤ length w.now) }
     ensures { result ≡ emptied_in universal w.now x }
@@ -23,12 +24,12 @@ fn is_emptied(universal: u32, w: &[u16], x: usize) -> bool
 }
 
 // The lowest emptied variable. All emptied ones are in the mask touched.
-fn lowest_emptied(n: usize, universal: u32, touched: u32, w: &[u16]) -> Option<usize>
-    requires { (n ≤ 32) × (96 ≤ length w.now)
-        × ((x : ℕ) → x < n → T (emptied_in universal w.now x) → T (bit touched x)) }
-    ensures { result ≡ found n (first n (emptied_in universal w.now)) }
+fn lowest_emptied(arrays: &Arrays, touched: u32, w: &[u16]) -> Option<usize>
+    requires { (96 ≤ length w.now)
+        × ((x : ℕ) → x < arrays.now.n → T (emptied_in arrays.now.universal w.now x) → T (bit touched x)) }
+    ensures { result ≡ found arrays.now.n (first arrays.now.n (emptied_in arrays.now.universal w.now)) }
 {
-    members_of(touched & everyone(n)).find(|x| is_emptied(universal, w, *x))
+    members_of(touched & everyone(arrays.n)).find(|x| is_emptied(arrays.universal, w, *x))
 }
 
 // Whether k with the mask v bars a value of the mask u of a universal x.
@@ -37,9 +38,10 @@ fn bars(arrays: &Arrays, x: usize, k: usize, u: u16, v: u16) -> bool
     ensures { result ≡ bars_in arrays.now x k u v }
 {
     if contains(arrays.universal, k) {
-        return !within(u, arrays.common(k, v, x));
+        !within(u, arrays.common(k, v, x))
+    } else {
+        x < k && supported_of(arrays, k, v, x, u) != u
     }
-    x < k && supported_of(arrays, k, v, x, u) != u
 }
 
 // The first variable of the mask m that bars a value of x.
@@ -52,7 +54,7 @@ fn first_bar(arrays: &Arrays, x: usize, m: u32, w: &[u16]) -> Option<usize>
 
 // The lowest universal variable that a neighbour in the mask touched bars a value of, and the first such neighbour.
 fn lowest_stopped(arrays: &Arrays, touched: u32, w: &[u16]) -> Option<(usize, usize)>
-    requires { (96 ≤ length w.now) }
+    requires { 96 ≤ length w.now }
     ensures { result ≡ stop arrays.now touched w.now arrays.now.n }
 {
     for x in members_of(arrays.universal & everyone(arrays.n)) {
@@ -70,7 +72,7 @@ fn loss_in(arrays: &Arrays, touched: u32, w: &[u16]) -> Result<(), Loss>
     ensures { (is_err result ≡ loss arrays.now touched w.now arrays.now.n)
         × (conflict_of result ≡ conflict arrays.now touched w.now arrays.now.n) }
 {
-    if let Some(x) = lowest_emptied(arrays.n, arrays.universal, touched, w) {
+    if let Some(x) = lowest_emptied(arrays, touched, w) {
         return Err(Loss {
             conflict: reason(w, x),
         });

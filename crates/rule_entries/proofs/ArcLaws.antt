@@ -36,7 +36,7 @@ module _ (P : Problem) (l R : List ℕ) (t : T (may_lend P l)) (e : length R ≡
 
 module _ (P : Problem) (n : ℕ) (A : Arrays) (st : States P n A) where
   -- Rule 1 on the words of a list l, which afterwards is l'.
-  pub arc_ends : (l w w' l' : List ℕ) (lost : Bool) (c : ℕ) → w ≡ words_for l → length l ≡ n → Arced P n w w' lost c → l' ≡ list_in n w'
+  pub arc_ends : (l w w' l' : List ℕ) (lost : Bool) (c : ℕ) → w ≡ words_for l → length l ≡ n → Arced P n w w' lost c → l' ≡ list_in (length l) w'
       → T (may_lend P l) → (lost ≡ (arc P l).loss) × (l' ≡ (arc P l).list)
   arc_ends l w w' l' lost c e h a b t =
       let s = words_hold n l w e h in
@@ -44,7 +44,7 @@ module _ (P : Problem) (n : ℕ) (A : Arrays) (st : States P n A) where
       let m : T (may_lend P (list_in n w)) = subst (λ (m : List ℕ). T (may_lend P m)) (sym s) t in
       let q = explained-list P (list_in n w) (why_in n w) m z in (
         a.loss ∙ explained-loss P (list_in n w) (why_in n w) m z ∙ ap (λ (m : List ℕ). (arc P m).loss) s,
-        b ∙ ap (list_in n) a.words
+        b ∙ ap (λ (k : ℕ). list_in k w') h ∙ ap (list_in n) a.words
             ∙ list_in-holding n st.most w (words_long n l w e h st.most) _ _ (ap length q ∙ (arc_masks P (list_in n w) (lent_out P (list_in n w) m).masks).size ∙ st.size)
             ∙ q ∙ ap (λ (m : List ℕ). (arc P m).list) s,
       )

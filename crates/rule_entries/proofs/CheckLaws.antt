@@ -65,7 +65,7 @@ module _ (P : Problem) (n : ℕ) (A : Arrays) (st : States P n A) (l w : List �
       list_in-holding n st.most w (words_long n l w e h st.most) _ _ (length-list_of P.n (λ i. mask_of 16 (forward_domains P (domains (list_in n w)) x a i)) ∙ st.size)
 
   pub forward_ends : (x a : ℕ) (r : Option ℕ) (w' l' : List ℕ) → (r ≡ found n (forward_named P x a (list_in n w))) × (w' ≡ after_forward P n x a w)
-      → l' ≡ list_in n w'
+      → l' ≡ list_in (length l) w'
       → (check_values r ≡ loss_named (forward P x a l).loss (forward_named P x a l ∷ [])) × (l' ≡ (forward P x a l).list)
   unfolding forward
   forward_ends x a r w' l' o b = (
@@ -73,7 +73,7 @@ module _ (P : Problem) (n : ℕ) (A : Arrays) (st : States P n A) (l w : List �
         ∙ ap (λ (m : ℕ). loss_named (ltb (forward_named P x a (list_in n w)) m) (forward_named P x a (list_in n w) ∷ [])) (sym st.size)
         ∙ ap (λ (c : Bool). loss_named c (forward_named P x a (list_in n w) ∷ [])) (sym (loss_named_lem P x a (list_in n w)))
         ∙ ap (λ (m : List ℕ). loss_named (forward P x a m).loss (forward_named P x a m ∷ [])) same,
-    b ∙ ap (list_in n) o.1 ∙ checked x a ∙ ap (λ (m : List ℕ). (forward P x a m).list) same,
+    b ∙ ap (λ (k : ℕ). list_in k w') h ∙ ap (list_in n) o.1 ∙ checked x a ∙ ap (λ (m : List ℕ). (forward P x a m).list) same,
   )
 
   pub ahead_ends : (x : ℕ) (r : Option Ahead) → r ≡ ahead (ahead_value P n x w) (ahead_variable P n x w)

@@ -4,3 +4,5 @@
 pub mod CheckLaws
 -- Rule 1 on these words.
 pub mod ArcLaws
+-- From the arrays back to the file.
+pub mod EntryLaws

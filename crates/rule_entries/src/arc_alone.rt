@@ -11,9 +11,9 @@ use solver_arrays::Arrays;
 pub fn arc_in(arrays: &Arrays, list: &mut [u16]) -> Result<bool, Reason>
     ensures { ArcIn arrays.now list.old list.new result }
 {
-    list_test(arrays.n, &arrays.domains, list)?;
-    let mut w = words_of(arrays.n, list);
+    list_test(arrays, list)?;
+    let mut w = words_of(list);
     let lost = arc(arrays, everyone(arrays.n), &mut w).is_err();
-    put_back(arrays.n, &w, list);
+    put_back(&w, list);
     Ok(lost)
 }

@@ -15,10 +15,10 @@ pub fn forward_in(
 ) -> Result<Option<usize>, Reason>
     ensures { ForwardIn arrays.now list.old list.new x a result }
 {
-    value_test(arrays.n, &arrays.domains, list, x, a)?;
-    let mut w = words_of(arrays.n, list);
+    value_test(arrays, list, x, a)?;
+    let mut w = words_of(list);
     let named = forward(arrays, x, a, &mut w).named;
-    put_back(arrays.n, &w, list);
+    put_back(&w, list);
     Ok(named)
 }
 
@@ -26,7 +26,7 @@ pub fn forward_in(
 pub fn ahead_in(arrays: &Arrays, list: &[u16], x: usize) -> Result<Option<Ahead>, Reason>
     ensures { AheadIn arrays.now list.now x result }
 {
-    variable_test(arrays.n, &arrays.domains, list, x)?;
-    let w = words_of(arrays.n, list);
+    variable_test(arrays, list, x)?;
+    let w = words_of(list);
     Ok(look_ahead(arrays, x, &w))
 }

@@ -10,8 +10,8 @@ use solver_arrays::Arrays;
 pub fn pure_in(arrays: &Arrays, list: &[u16], x: usize) -> Result<u16, Reason>
     ensures { PureIn arrays.now list.now x result }
 {
-    variable_test(arrays.n, &arrays.domains, list, x)?;
-    let w = words_of(arrays.n, list);
+    variable_test(arrays, list, x)?;
+    let w = words_of(list);
     Ok(pure_values(arrays, x, &w))
 }
 
@@ -19,7 +19,7 @@ pub fn pure_in(arrays: &Arrays, list: &[u16], x: usize) -> Result<u16, Reason>
 pub fn interchangeable_in(arrays: &Arrays, list: &[u16], x: usize) -> Result<u16, Reason>
     ensures { InterchangeableIn arrays.now list.now x result }
 {
-    variable_test(arrays.n, &arrays.domains, list, x)?;
-    let w = words_of(arrays.n, list);
+    variable_test(arrays, list, x)?;
+    let w = words_of(list);
     Ok(interchangeable_values(arrays, x, &w))
 }

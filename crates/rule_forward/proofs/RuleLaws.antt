@@ -215,26 +215,17 @@ module _ (P : Problem) (n : ℕ) (A : Arrays) (st : States P n A)
             ∙ holding_again n st.most w l (set (list_in n w) x (2 ^ a)) (why_in n w) K L
 
 -- What the code of the forward check ends with: m, v and q are its later neighbours, its narrowed mask and its reason.
-pub forward_ends : (P : Problem) (n : ℕ) (A : Arrays) → States P n A
-    → (x a : ℕ) → x < n → a < 16 → (w : List ℕ) → ((k : ℕ) → get_or w k 0 < 65536) → 96 ≤ length w → ((j : ℕ) → j < n → ¬ (get_or w j 0 ≡ 0))
-    → (m v q r : ℕ) (w' : List ℕ) → m ≡ later_of (get_or A.near x 0) x n → v ≡ 2 ^ a → q ≡ reason_in (set w x v) x
-    → r ≡ first_failing A x a n (bit m) (set w x v) → w' ≡ checked_words A x a n q (bit m) (set w x v)
-    → (r ≡ forward_named P x a (list_in n w)) × (w' ≡ after_forward P n x a w)
-forward_ends P n A st x a hx ha w small l z m v q r w' em ev eq er ew = (
-  er ∙ ap₂ (λ (m v : ℕ). first_failing A x a n (bit m) (set w x v)) em ev
-      ∙ named_narrowed P n A st x a hx ha w small ∙ sym (named_is P n A st x a hx ha w small z),
-  ew ∙ ap₂ (λ (m v : ℕ). checked_words A x a n q (bit m) (set w x v)) em ev
-      ∙ words_are P n A st x a hx ha w small l q (eq ∙ ap (λ (v : ℕ). reason_in (set w x v) x) ev),
-)
-
--- So it ends where the reply tells the variable, or none.
 pub forward_said : (P : Problem) (n : ℕ) (A : Arrays) → States P n A
     → (x a : ℕ) → x < n → a < 16 → (w : List ℕ) → ((k : ℕ) → get_or w k 0 < 65536) → 96 ≤ length w → ((j : ℕ) → j < n → ¬ (get_or w j 0 ≡ 0))
     → (m v q : ℕ) (r : Option ℕ) (w' : List ℕ) → m ≡ later_of (get_or A.near x 0) x n → v ≡ 2 ^ a → q ≡ reason_in (set w x v) x
     → r ≡ found n (first_failing A x a n (bit m) (set w x v)) → w' ≡ checked_words A x a n q (bit m) (set w x v)
     → (r ≡ found n (forward_named P x a (list_in n w))) × (w' ≡ after_forward P n x a w)
-forward_said P n A st x a hx ha w small l z m v q r w' em ev eq er ew =
-    let t = forward_ends P n A st x a hx ha w small l z m v q _ w' em ev eq refl ew in (er ∙ ap (found n) t.0, t.1)
+forward_said P n A st x a hx ha w small l z m v q r w' em ev eq er ew = (
+  er ∙ ap (found n) (ap₂ (λ (m v : ℕ). first_failing A x a n (bit m) (set w x v)) em ev
+      ∙ named_narrowed P n A st x a hx ha w small ∙ sym (named_is P n A st x a hx ha w small z)),
+  ew ∙ ap₂ (λ (m v : ℕ). checked_words A x a n q (bit m) (set w x v)) em ev
+      ∙ words_are P n A st x a hx ha w small l q (eq ∙ ap (λ (v : ℕ). reason_in (set w x v) x) ev),
+)
 
 -- A forward check is a loss where it names a variable.
 pub loss_named_lem : (P : Problem) (x a : ℕ) (l : List ℕ) → forward_loss P (domains l) x a ≡ ltb (forward_named P x a l) P.n
@@ -259,17 +250,10 @@ module _ (P : Problem) (n : ℕ) (A : Arrays) (st : States P n A)
       go a = by_lt a 16 (λ l. rw (lt-ltb a 16 l) (named_is P n A st i a hi l w small z)) (λ l. rw (le-ltb a 16 l))
 
   -- What the code of look ahead ends with: m and d are its later neighbours and the values that it tries.
-  pub ahead_ends : (m d value variable : ℕ) → m ≡ later_of (get_or A.near i 0) i n → d ≡ cond (bit A.universal i) (get_or w i 0) 0
-      → value ≡ first_losing A i n m d w → variable ≡ losing_at A i n m d w
-      → (value ≡ ahead_value P n i w) × (variable ≡ ahead_variable P n i w)
-  ahead_ends m d value variable em ed p q = (
-    p ∙ ap₂ (λ (m d : ℕ). first_losing A i n m d w) em ed ∙ sym value_is,
-    q ∙ ap₂ (λ (m d : ℕ). losing_at A i n m d w) em ed ∙ sym variable_is,
-  )
-
   pub ahead_said : (m d : ℕ) (r : Option Ahead) → m ≡ later_of (get_or A.near i 0) i n → d ≡ cond (bit A.universal i) (get_or w i 0) 0
       → r ≡ ahead (first_losing A i n m d w) (losing_at A i n m d w) → r ≡ ahead (ahead_value P n i w) (ahead_variable P n i w)
-  ahead_said m d r em ed e = let t = ahead_ends m d _ _ em ed refl refl in e ∙ ap₂ ahead t.0 t.1
+  ahead_said m d r em ed e =
+      e ∙ ap₂ ahead (ap₂ (λ (m d : ℕ). first_losing A i n m d w) em ed ∙ sym value_is) (ap₂ (λ (m d : ℕ). losing_at A i n m d w) em ed ∙ sym variable_is)
 
 -- Look ahead is a loss where it names a value.
 pub ahead_named_lem : (P : Problem) (n i : ℕ) (w : List ℕ) → look_ahead P i (list_in n w) ≡ ltb (ahead_value P n i w) 16

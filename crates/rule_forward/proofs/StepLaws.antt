@@ -1,49 +1,36 @@
 -- The check of one value, a variable at a time: what each step of the code leaves.
 use mathlib.Core.Path.{◌≡◌, refl, sym, ap, ap₂, subst, ◌∙◌, fun_ext}
-use mathlib.Core.Bool.{Bool, true, false, cond, not, ◌&&◌, ◌||◌, and-false, and-true, and-not_self, or-false}
+use mathlib.Core.Bool.{Bool, true, false, cond, not, ◌&&◌, ◌||◌, and-false, and-true, and_assoc, and-not_self, or-false}
 use mathlib.Core.List.{List}
-use Prim.Native.Nat.{ℕ, ◌+◌, ◌-◌, ◌^◌, ◌≤◌, ◌<◌, min}
+use Prim.Native.Nat.{ℕ, ◌^◌, ◌≤◌, ◌<◌}
 use native.Mathlib.Omega.{arith}
 use lib.Dec.{T, eqb, ltb}
-use lib.Bits.{bit_and, bit_or, and_lt}
+use lib.Bits.{bit_and, bit_or, and_le_l}
 use lib.ListN.{get_or, length, set}
 use lib.Seq.{get_or-set_other, set-get_or}
-use lib.Pow.{pow_pos, pow_mono}
+use lib.Pow.{pow_mono}
 use borrow.Author.Tests.{eq-eqb, ne_eqb, eqb-true, lt-ltb, le-ltb, ltb-true}
-use Rattle.std.specs.Prelude.{Some, None}
+use Rattle.std.specs.Prelude.{Option, Some, None}
+use Rattle.std.specs.Option.{option_or}
 use Rattle.mask.specs.Range.{first}
 use Rattle.mask.specs.Found.{found}
-use Rattle.mask.specs.Mask.{bit, rest, mask_of}
-use Rattle.mask.proofs.Logic.{holds, true_holds, fails, by_eq, by_lt, and_out, or_out_false}
+use Rattle.mask.specs.Mask.{bit, rest, above, mask_of}
+use Rattle.mask.proofs.Logic.{holds, true_holds, fails, clash, by_eq, by_lt, and_out, or_out_false}
 use Rattle.mask.proofs.Found.{found_some, found_none}
 use Rattle.mask.proofs.Bits.{bit-bit_and, bit-bit_or, bit_single, bit_ext, bit_high, bit_of_zero}
-use Rattle.mask.proofs.Masks.{mask_of_lt, bit-mask_of, bit_not}
-use Rattle.mask.proofs.Range.{first_none, first_more}
-use Rattle.mask.proofs.Members.{bit-rest, low_in, low_lt, bit-ones, first_found, first_on}
+use Rattle.mask.proofs.Masks.{mask_of_lt, bit-mask_of}
+use Rattle.mask.proofs.Range.{first_none, first_more, first_of, first_least}
+use Rattle.mask.proofs.Members.{bit-rest, low_in, low_lt, bit-above, first_found, first_on}
 use Rattle.game.specs.Lists.{list_of}
 use Rattle.theory.proofs.Lists.{length-list_of, get_d_list_of, list_of_same, set-list_of}
 use Rattle.solver_arrays.specs.Arrays.{row_in}
 use Rattle.solver_arrays.specs.Words.{list_in, why_in, reason_in, put_reason, holding}
-use Rattle.solver_arrays.proofs.WordLaws.{length-holding, holding-domain, holding_reason, holding-own, set-domain, set_reason, put_kept, reason_set, put-domain}
+use Rattle.solver_arrays.proofs.WordLaws.{holding-domain, holding_reason, holding-own, set-domain, set_reason, put_kept, reason_set, put-domain}
 use Rattle.rule_forward.specs.OneValue.{later_of, left_of, fails_at, reason_of, checked_at, mask_at, why_at, failing, checked_words, first_failing, Unmoved, losing, first_losing, losing_at, ahead}
 use Rattle.solver_arrays.specs.declared.arrays.Arrays.{Arrays}
 use Rattle.rule_forward.specs.declared.steps.Ahead.{Ahead}
 
 -- The members after x and below n ------------------------------------------------------------------------------
--- The bits from y on below n.
-bit_between : (y n k : ℕ) → y ≤ n → k < n → bit (2 ^ n - 2 ^ y) k ≡ not (ltb k y)
-bit_between y n k h l =
-    let p = pow_pos y in
-    let q = pow_mono {i = y} {j = n} h in
-    let e : 2 ^ n - 2 ^ y ≡ 2 ^ n - 1 - (2 ^ y - 1) = omega arith in
-    ap (λ (x : ℕ). bit x k) e ∙ bit_not n (2 ^ y - 1) k (omega arith) l ∙ ap not (bit-ones y k)
-
-pub between_lt : (y n : ℕ) → n ≤ 32 → 2 ^ n - 2 ^ y < 2 ^ 32
-between_lt y n h = let p = pow_pos y in let q = pow_mono {i = n} {j = 32} h in let r = pow_pos n in omega arith
-
-pub between_le : (y n : ℕ) → y ≤ n → 2 ^ y ≤ 2 ^ n
-between_le y n h = pow_mono h
-
 pub bit_later : (m x n : ℕ) → n ≤ 32 → (k : ℕ) → bit (later_of m x n) k ≡ (bit m k && (ltb x k && ltb k n))
 unfolding later_of
 bit_later m x n b k = by_lt k 32 (λ h. bit-mask_of 32 _ k h)
@@ -53,17 +40,12 @@ later_lt : (m x n : ℕ) → later_of m x n < 2 ^ 32
 unfolding later_of
 later_lt m x n = mask_of_lt 32 _
 
-pub later_is : (m x n : ℕ) → m < 2 ^ 32 → x < n → n ≤ 32 → bit_and m (2 ^ n - 2 ^ (x + 1)) ≡ later_of m x n
-later_is m x n h l b =
-    bit_ext 32 (bit_and m (2 ^ n - 2 ^ (x + 1))) (later_of m x n) (and_lt 32 m (2 ^ n - 2 ^ (x + 1)) h (between_lt (x + 1) n b)) (later_lt m x n)
-    λ k r. bit-bit_and m (2 ^ n - 2 ^ (x + 1)) k ∙ ap (λ (c : Bool). bit m k && c) (between k) ∙ sym (bit_later m x n b k)
-  where
-    between : (k : ℕ) → bit (2 ^ n - 2 ^ (x + 1)) k ≡ (ltb x k && ltb k n)
-    between k = by_lt k n
-        (λ r. bit_between (x + 1) n k (omega arith) r ∙ rw (lt-ltb k n r)
-        (by_lt x k (λ s. rw (lt-ltb x k s, le-ltb k (x + 1) (omega arith))) (λ s. rw (le-ltb x k s, lt-ltb k (x + 1) (omega arith)))))
-        (λ r. let p = pow_pos (x + 1) in let q = pow_pos n in
-        bit_high n (2 ^ n - 2 ^ (x + 1)) k (omega arith) r ∙ rw (le-ltb k n r) (sym (and-false (ltb x k))))
+-- What is above x, and among the numbers below n.
+pub later_is : (m x n r e : ℕ) → n ≤ 32 → r < 2 ^ 32 → r ≡ above m x → ((k : ℕ) → bit e k ≡ ltb k n) → bit_and r e ≡ later_of m x n
+later_is m x n r e b h p q =
+    bit_ext 32 (bit_and r e) (later_of m x n) (let l = and_le_l r e in omega arith) (later_lt m x n)
+    λ k _. bit-bit_and r e k ∙ ap₂ ◌&&◌ (ap (λ z. bit z k) p ∙ bit-above m x k) (q k)
+    ∙ and_assoc (bit m k) (ltb x k) (ltb k n) ∙ sym (bit_later m x n b k)
 
 -- The members of what is later lie between x and n.
 pub later_in : (m x n : ℕ) → n ≤ 32 → (k : ℕ) → T (bit (later_of m x n) k) → k < n
@@ -79,10 +61,6 @@ fits_below n m b h f =
     same : (k : ℕ) → k < 32 → bit m k ≡ bit (mask_of n (bit m)) k
     same k _ = by_lt k n (λ l. sym (bit-mask_of n (bit m) k l))
         (λ l. fails {b = bit m k} (λ t. let r = f k t in omega arith) ∙ sym (bit_high n (mask_of n (bit m)) k (mask_of_lt n (bit m)) l))
-
--- The lower of two variables.
-pub least_is : (named j : ℕ) → min named j ≡ cond (ltb j named) j named
-least_is named j = by_lt j named (λ l. rw (lt-ltb j named l) (omega arith)) (λ l. rw (le-ltb j named l) (omega arith))
 
 -- One variable -------------------------------------------------------------------------------------------------
 module _ (w : List ℕ) (small : (k : ℕ) → get_or w k 0 < 65536) where
@@ -147,11 +125,20 @@ passed-low m left h z = rw (holds {b = bit left (first 32 (bit left))} (low_in 3
 pub within-rest : (m left left' : ℕ) → left < 2 ^ 32 → ¬ (left ≡ 0) → left' ≡ rest left → ((k : ℕ) → T (bit left k) → T (bit m k)) → (k : ℕ) → T (bit left' k) → T (bit m k)
 within-rest m left left' h z e s k t = s k (and_out (bit left k) (not (eqb k (first 32 (bit left)))) (rw (e, bit-rest 32 left h z k) at t)).0
 
+-- What is found first stays as long as it is before what is tested next.
+first_kept : (n k j : ℕ) (lost : Bool) → j < n → (k < n → k < j) → cond lost (option_or (found n k) (Some j)) (found n k) ≡ found n (cond (lost && ltb j k) j k)
+unfolding found
+first_kept n k j true l s = by_lt k n
+    (λ h. let d = s h in rw (le-ltb j k (omega arith), lt-ltb k n h))
+    (λ h. rw (le-ltb k n h, lt-ltb j k (omega arith), lt-ltb j n l))
+first_kept n k j false l s = refl
+
 -- What holds when the members `left` of m are still to be checked: v are the words by then, and `named` is the lowest that failed.
-pub record Passing (A : Arrays) (x a n q m : ℕ) (w : List ℕ) (left : ℕ) (v : List ℕ) (named : ℕ) : Type 0 where
+pub record Passing (A : Arrays) (x a n q m : ℕ) (w : List ℕ) (left : ℕ) (v : List ℕ) (named : Option ℕ) : Type 0 where
   pub within : (k : ℕ) → T (bit left k) → T (bit m k)
+  pub before : (k j : ℕ) → T (passed m left k) → T (bit left j) → k < j
   pub words : v ≡ checked_words A x a n q (passed m left) w
-  pub lowest : named ≡ first_failing A x a n (passed m left) w
+  pub lowest : named ≡ found n (first_failing A x a n (passed m left) w)
 
 module _ (A : Arrays) (x a n q : ℕ) (b : n ≤ 32) (w : List ℕ) (l : 96 ≤ length w) where
   -- Nothing checked: the words as they are.
@@ -159,10 +146,6 @@ module _ (A : Arrays) (x a n q : ℕ) (b : n ≤ 32) (w : List ℕ) (l : 96 ≤ 
   unfolding checked_words list_in why_in
   checked_none small d e =
       sym (ap₂ (holding n w) (list_of_same n _ (λ j. get_or w j 0) (λ k h. rw (e k))) (list_of_same n _ (reason_in w) (λ k h. rw (e k))) ∙ holding-own n b w l small)
-
-  pub length_checked : (d : ℕ → Bool) → length (checked_words A x a n q d w) ≡ length w
-  unfolding checked_words
-  length_checked d = length-holding n w _ _
 
   module _ (d : ℕ → Bool) (j : ℕ) (h : j < n) (e : d j ≡ false) where
     -- A variable that is not yet checked has its mask and its reason.
@@ -207,22 +190,23 @@ module _ (A : Arrays) (x a n q : ℕ) (b : n ≤ 32) (w : List ℕ) (l : 96 ≤ 
         ∙ ap₂ (holding n w) (one_more d' o (mask_at A x a w) (λ j. get_or w j 0)) (one_more d' o (why_at A x a q w) (reason_in w))
 
   -- The loop over the members of m: all are left, one is checked, none is left.
-  pub passing_start : ((k : ℕ) → get_or w k 0 < 65536) → (m : ℕ) → Passing A x a n q m w m w n
-  unfolding first_failing
+  pub passing_start : ((k : ℕ) → get_or w k 0 < 65536) → (m : ℕ) → Passing A x a n q m w m w None
+  unfolding first_failing found
   passing_start small m = record {
     within = λ k t. t;
+    before = λ k j t b. absurd (clash (passed_none m k) t);
     words = checked_none small (passed m m) (passed_none m);
-    lowest = sym (first_none n (λ j. passed m m j && failing A x a w j) λ k h. rw (passed_none m k));
+    lowest = rw (first_none n (λ j. passed m m j && failing A x a w j) (λ k h. rw (passed_none m k)), le-ltb n n (omega arith));
   }
 
-  pub passing_end : (m left : ℕ) (v : List ℕ) (named : ℕ) → Passing A x a n q m w left v named → left ≡ 0
-      → (named ≡ first_failing A x a n (bit m) w) × (v ≡ checked_words A x a n q (bit m) w)
+  pub passing_end : (m left : ℕ) (v : List ℕ) (named : Option ℕ) → Passing A x a n q m w left v named → left ≡ 0
+      → (named ≡ found n (first_failing A x a n (bit m) w)) × (v ≡ checked_words A x a n q (bit m) w)
   passing_end m left v named p e = (
-    p.lowest ∙ rw e (ap (λ (d : ℕ → Bool). first_failing A x a n d w) (fun_ext (passed_all m))),
+    p.lowest ∙ rw e (ap (λ (d : ℕ → Bool). found n (first_failing A x a n d w)) (fun_ext (passed_all m))),
     p.words ∙ rw e (ap (λ (d : ℕ → Bool). checked_words A x a n q d w) (fun_ext (passed_all m))),
   )
 
-  module _ (m : ℕ) (inside : (k : ℕ) → T (bit m k) → k < n) (left : ℕ) (h : left < 2 ^ 32) (z : ¬ (left ≡ 0)) (v : List ℕ) (named : ℕ)
+  module _ (m : ℕ) (inside : (k : ℕ) → T (bit m k) → k < n) (left : ℕ) (h : left < 2 ^ 32) (z : ¬ (left ≡ 0)) (v : List ℕ) (named : Option ℕ)
       (p : Passing A x a n q m w left v named) where
     low_below : first 32 (bit left) < n
     low_below = inside (first 32 (bit left)) (p.within (first 32 (bit left)) (low_in 32 left h z))
@@ -241,14 +225,31 @@ module _ (A : Arrays) (x a n q : ℕ) (b : n ≤ 32) (w : List ℕ) (l : 96 ≤ 
         (λ e. rw (e, eq-eqb (first 32 (bit left)) (first 32 (bit left)) refl, passed-low m left h z))
         (λ e. rw (ne_eqb k (first 32 (bit left)) e) (ap (λ (b : Bool). b && failing A x a w k) (or-false (passed m left k)) ∙ sym (or-false (passed m left k && failing A x a w k)))))
 
+    before_low : first_failing A x a n (passed m left) w < n → first_failing A x a n (passed m left) w < first 32 (bit left)
+    unfolding first_failing
+    before_low l =
+        let k = first n (λ k. passed m left k && failing A x a w k) in
+        p.before k (first 32 (bit left)) (and_out (passed m left k) (failing A x a w k) (first_of n (λ k. passed m left k && failing A x a w k) l)).0 (low_in 32 left h z)
+
+    before_more : (k j : ℕ) → T (passed m (rest left) k) → T (bit (rest left) j) → k < j
+    before_more k j t b =
+        let r = and_out (bit left j) (not (eqb j (first 32 (bit left)))) (rw (bit-rest 32 left h z j) at b) in
+        by_eq k (first 32 (bit left))
+        (λ e. by_lt j (first 32 (bit left))
+        (λ l. absurd (clash (first_least 32 (bit left) j l) r.0))
+        (λ l. by_eq j (first 32 (bit left)) (λ d. absurd (clash (ap not (eq-eqb j (first 32 (bit left)) d)) r.1)) (λ d. omega arith)))
+        (λ d. p.before k j
+        (subst T (passed_more m left h z p.within k ∙ ap (λ (c : Bool). passed m left k || c) (ne_eqb k (first 32 (bit left)) d) ∙ or-false (passed m left k)) t) r.0)
+
     -- A turn of the loop, as the code has it: j is the lowest member left, and the names with a dash are those of the next turn.
-    pub passing_turn : (j left' : ℕ) (lost : Bool) (v' : List ℕ) (named' : ℕ) → j ≡ first 32 (bit left) → left' ≡ rest left → lost ≡ failing A x a v j
-        → v' ≡ checked_at (bit A.universal j) (row_in A x a j) q v j → named' ≡ cond (lost && ltb j named) j named
+    pub passing_turn : (j left' : ℕ) (lost : Bool) (v' : List ℕ) (named' : Option ℕ) → j ≡ first 32 (bit left) → left' ≡ rest left → lost ≡ failing A x a v j
+        → v' ≡ checked_at (bit A.universal j) (row_in A x a j) q v j → named' ≡ cond lost (option_or named (Some j)) named
         → Passing A x a n q m w left' v' named'
     passing_turn j left' lost v' named' s t f g e = record {
       within = within-rest m left left' h z t p.within;
+      before = rw t before_more;
       words = g ∙ rw (p.words, s, t) words_more;
-      lowest = e ∙ rw (f, p.lowest, p.words, s, t, failing_yet (passed m left) (first 32 (bit left)) low_below (passed-low m left h z)) named_more;
+      lowest = e ∙ rw (f, p.lowest, p.words, s, t, failing_yet (passed m left) (first 32 (bit left)) low_below (passed-low m left h z)) (first_kept n _ _ _ low_below before_low ∙ ap (found n) named_more);
     }
 
 -- The loop that looks for the first losing value: nowhere, found at the lowest value a, and not there.

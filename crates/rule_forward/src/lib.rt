@@ -17,10 +17,10 @@ pub use steps::{Ahead, Checked};
 // The forward check of value a of variable x. The reply names the variable of a loss, and the other variables that lost values.
 pub fn forward(arrays: &Arrays, x: usize, a: usize, w: &mut [u16]) -> Checked
     requires { (x < arrays.now.n) × (a < 16) × (96 ≤ length w.old) × Nonzero arrays.now.n w.old }
-    ensures { Forwarded arrays.now x a w.old
-        w.new result.named × UnmovedBut x result.narrowed w.old w.new }
+    ensures { Forwarded arrays.now x a w.old w.new result.named
+        × UnmovedBut x result.narrowed w.old w.new }
 {
-    let m = later(arrays.near[x], x, arrays.n);
+    let m = later(arrays, x);
     w[x] = single(a);
     let q = reason(w, x);
     check_each(arrays, x, a, q, m, w)
@@ -39,7 +39,7 @@ pub fn look_ahead(arrays: &Arrays, i: usize, w: &[u16]) -> Option<Ahead>
     requires { (i < arrays.now.n) × (96 ≤ length w.now) × Nonzero arrays.now.n w.now }
     ensures { LookedAhead arrays.now i w.now result }
 {
-    let m = later(arrays.near[i], i, arrays.n);
+    let m = later(arrays, i);
     let d = tried(arrays.universal, i, w);
     losing_from(arrays, i, m, d, w)
 }

@@ -1,30 +1,31 @@
 // The check of one value against later variables, one at a time.
-ghost use Rattle.std.specs.Prelude.{◌≡◌, cond, ◌&&◌, ℕ, ◌^◌, ◌≤◌, ◌<◌, T, eqb, ltb, length, get_or};
+ghost use Rattle.std.specs.Prelude.{◌≡◌, cond, ℕ, ◌^◌, ◌≤◌, ◌<◌, T, eqb, length, get_or};
+ghost use Rattle.std.specs.Option.{option_or};
 ghost use Rattle.std.specs.Int.Bits.{bit_or};
 ghost use Rattle.mask.specs.Mask.{bit};
 ghost use Rattle.mask.specs.Found.{found};
 ghost use Rattle.solver_arrays.specs.Arrays.{row_in};
 ghost use Rattle.rule_forward.specs.OneValue.{later_of, left_of, fails_at, checked_at, failing, checked_words, first_failing, Unmoved, first_losing, losing_at, ahead};
 
-use mask::{contains, members_of, single};
+use mask::{contains, everyone, members_of, single};
 use solver_arrays::{Arrays, add_reason};
 
-// The members of m after x and below n.
-pub fn later(m: u32, x: usize, n: usize) -> u32
-    requires { (x < n) × (n ≤ 32) }
-    ensures { result ≡ later_of m x n }
+// The neighbours of x after it and below n.
+pub fn later(arrays: &Arrays, x: usize) -> u32
+    requires { x < 32 }
+    ensures { result ≡ later_of (get_or arrays.now.near x 0) x arrays.now.n }
 {
-    let one: u64 = 1;
-    let between = (one << n) - (one << (x + 1));
-    m & (between as u32)
+    arrays.later_neighbours(x) & everyone(arrays.n)
 }
 
+// What the row r leaves of the mask m of a variable that is universal where u says so.
 fn left_of(u: bool, r: u16, m: u16) -> u16
     ensures { result ≡ left_of u r m }
 {
     if u { m } else { m & r }
 }
 
+// Whether the check fails there.
 fn fails_at(u: bool, r: u16, m: u16) -> bool
     ensures { result ≡ fails_at u r m }
 {
@@ -45,6 +46,8 @@ fn keep_at(u: bool, r: u16, q: u32, j: usize, w: &mut [u16])
     }
 }
 
+// Whether the check of value a of x fails at variable j.
+#[tactic(auto, unfolding(crate::specs::OneValue::failing))]
 fn fails(arrays: &Arrays, x: usize, a: usize, j: usize, w: &[u16]) -> bool
     requires { (x < 32) × (a < 16) × (j < 32) × (96 ≤ length w.now) }
     ensures { result ≡ failing arrays.now x a w.now j }
@@ -53,6 +56,7 @@ fn fails(arrays: &Arrays, x: usize, a: usize, j: usize, w: &[u16]) -> bool
 }
 
 // The check of value a of x at variable j: whether it fails there.
+#[tactic(auto, unfolding(crate::specs::OneValue::failing))]
 fn check_at(arrays: &Arrays, x: usize, a: usize, q: u32, j: usize, w: &mut [u16]) -> bool
     requires { (x < 32) × (a < 16) × (j < 32) × (96 ≤ length w.old) }
     ensures { (result ≡ failing arrays.now x a w.old j)
@@ -65,10 +69,11 @@ fn check_at(arrays: &Arrays, x: usize, a: usize, q: u32, j: usize, w: &mut [u16]
     lost
 }
 
-fn least(lost: bool, j: usize, named: usize) -> usize
-    ensures { result ≡ cond (lost && ltb j named) j named }
+// The first that failed, j where none did before it.
+fn first_lost(named: Option<usize>, lost: bool, j: usize) -> Option<usize>
+    ensures { result ≡ cond lost (option_or named (Some j)) named }
 {
-    if lost { named.min(j) } else { named }
+    if lost { named.or(Some(j)) } else { named }
 }
 
 // The mask m, with j in it where its domain changed.
@@ -93,19 +98,15 @@ pub fn check_each(arrays: &Arrays, x: usize, a: usize, q: u32, m: u32, w: &mut [
         × (w.new ≡ checked_words arrays.now x a arrays.now.n q (bit m) w.old)
         × Unmoved result.narrowed w.old w.new }
 {
-    let n = arrays.n;
-    let mut named = n;
+    let mut named = None;
     let mut narrowed: u32 = 0;
     for j in members_of(m) {
         let old = w[j];
         let lost = check_at(arrays, x, a, q, j, w);
         narrowed = noted(narrowed, j, old, w[j]);
-        named = least(lost, j, named);
+        named = first_lost(named, lost, j);
     }
-    Checked {
-        named: if named < n { Some(named) } else { None },
-        narrowed,
-    }
+    Checked { named, narrowed }
 }
 
 // The lowest member of m where the check fails; nothing is written.
@@ -125,7 +126,7 @@ pub fn tried(universal: u32, i: usize, w: &[u16]) -> u16
 }
 
 // A value of a universal variable whose forward check is a loss, and the variable that this loss names.
-#[derive(Clone, Copy)]
+#[derive(Clone, Copy, Default)]
 pub struct Ahead {
     pub value: usize,
     pub variable: usize,

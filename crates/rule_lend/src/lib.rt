@@ -8,7 +8,7 @@ ghost use Rattle.rule_lend.specs.Lend.{mask_fits, lendable, value_in, list_test,
 
 use mask::contains;
 use refusal::{Reason, needed};
-use solver_arrays::Words;
+use solver_arrays::{Arrays, Words};
 
 // The mask m may be lent where the file's is d.
 fn mask_fits(m: u16, d: u16) -> bool
@@ -18,11 +18,10 @@ fn mask_fits(m: u16, d: u16) -> bool
 }
 
 // There are n masks, and each may be lent.
-fn is_lendable(n: usize, domains: &[u16; 32], list: &[u16]) -> bool
-    requires { n ≤ 32 }
-    ensures { result ≡ lendable n domains.now list.now }
+fn is_lendable(arrays: &Arrays, list: &[u16]) -> bool
+    ensures { result ≡ lendable arrays.now.n arrays.now.domains list.now }
 {
-    list.len() == n && (0..n).all(|i| mask_fits(list[i], domains[i]))
+    list.len() == arrays.n && (0..arrays.n).all(|i| mask_fits(list[i], arrays.domains[i]))
 }
 
 // a is a value of variable x in the list.
@@ -33,50 +32,46 @@ fn is_value(list: &[u16], x: usize, a: usize) -> bool
 }
 
 // The tests of a call, in their order: 13; 13, 11; 13, 11, 10.
-pub fn list_test(n: usize, domains: &[u16; 32], list: &[u16]) -> Result<(), Reason>
-    requires { n ≤ 32 }
-    ensures { result ≡ list_test (lendable n domains.now list.now) }
+#[tactic(auto, unfolding(crate::specs::Lend::list_test))]
+pub fn list_test(arrays: &Arrays, list: &[u16]) -> Result<(), Reason>
+    ensures { result ≡ list_test (lendable arrays.now.n arrays.now.domains list.now) }
 {
-    needed(is_lendable(n, domains, list), Reason::Lent)
+    needed(is_lendable(arrays, list), Reason::Lent)
 }
 
-pub fn variable_test(n: usize, domains: &[u16; 32], list: &[u16], x: usize) -> Result<(), Reason>
-    requires { n ≤ 32 }
-    ensures { result ≡ variable_test (lendable n domains.now list.now) n x }
+pub fn variable_test(arrays: &Arrays, list: &[u16], x: usize) -> Result<(), Reason>
+    ensures { result ≡ variable_test
+        (lendable arrays.now.n arrays.now.domains list.now) arrays.now.n x }
 {
-    let s = list_test(n, domains, list);
-    let t = needed(x < n, Reason::Variable);
+    let s = list_test(arrays, list);
+    let t = needed(x < arrays.n, Reason::Variable);
+    // `and`, so that an edit that exchanges the tests is refused for the fact.
     s.and(t)
 }
 
-pub fn value_test(
-    n: usize,
-    domains: &[u16; 32],
-    list: &[u16],
-    x: usize,
-    a: usize,
-) -> Result<(), Reason>
-    requires { n ≤ 32 }
-    ensures { result ≡ value_test (lendable n domains.now list.now) n list.now x a }
+pub fn value_test(arrays: &Arrays, list: &[u16], x: usize, a: usize) -> Result<(), Reason>
+    ensures { result ≡ value_test
+        (lendable arrays.now.n arrays.now.domains list.now) arrays.now.n list.now x a }
 {
-    variable_test(n, domains, list, x)?;
+    variable_test(arrays, list, x)?;
     needed(is_value(list, x, a), Reason::Value)
 }
 
-// The words of a turn with the n masks of the list, and zero behind them.
-pub fn words_of(n: usize, list: &[u16]) -> Words
-    requires { (n ≤ 32) × (length list.now ≡ n) }
+// The words of a turn with the masks of the list, and zero behind them.
+pub fn words_of(list: &[u16]) -> Words
+    requires { length list.now ≤ 128 }
     ensures { result ≡ words_for list.now }
 {
     let mut w = [0u16; 128];
-    w[..n].copy_from_slice(list);
+    w[..list.len()].copy_from_slice(list);
     w
 }
 
-// The first n words go back into the list.
-pub fn put_back(n: usize, w: &Words, list: &mut [u16])
-    requires { (n ≤ 32) × (length list.old ≡ n) }
-    ensures { list.new ≡ list_in n w.now }
+// The first words go back into the list.
+pub fn put_back(w: &Words, list: &mut [u16])
+    requires { length list.old ≤ 128 }
+    ensures { list.new ≡ list_in (length list.old) w.now }
 {
+    let n = list.len();
     list.copy_from_slice(&w[..n]);
 }

@@ -30,9 +30,10 @@ fn smallest_of(m: u16) -> u16
     ensures { result ≡ mask_of 16 (smallest (bit m)) }
 {
     if m == 0 {
-        return 0;
+        0
+    } else {
+        single(lowest(m) as usize)
     }
-    single(lowest(m) as usize)
 }
 
 // The narrowing that rule 4 names: an existential variable keeps the smallest pure value, if there is one; a universal
@@ -43,14 +44,15 @@ pub fn purged_values(pure: u16, domain: u16, universal: bool) -> u16
     if universal {
         let others = difference(domain, pure);
         if others == 0 {
-            return smallest_of(domain);
+            smallest_of(domain)
+        } else {
+            others
         }
-        return others;
+    } else if pure == 0 {
+        domain
+    } else {
+        smallest_of(pure)
     }
-    if pure == 0 {
-        return domain;
-    }
-    smallest_of(pure)
 }
 
 // Whether values a and b of x go with the same values of j.
@@ -81,8 +83,7 @@ fn some_interchange(arrays: &Arrays, x: usize, a: usize, m: u16, w: &[u16]) -> b
 // The mask of a alone where no smaller value of the domain is interchangeable with it, else no value.
 fn representative(arrays: &Arrays, x: usize, a: usize, w: &[u16]) -> u16
     requires { (x < 32) × (a < 16) × (96 ≤ length w.now) }
-    ensures { result ≡ cond
-        (is_representative arrays.now x w.now a) (2 ^ a) 0 }
+    ensures { result ≡ cond (is_representative arrays.now x w.now a) (2 ^ a) 0 }
 {
     let one: u16 = single(a);
     if some_interchange(arrays, x, a, w[x] & (one - 1), w) {
@@ -131,8 +132,7 @@ fn after_interchangeable(arrays: &Arrays, used: bool, x: usize, w: &[u16]) -> u1
 // The domain of i narrowed in its words by rules 4 and 5, where they are used. Rule 5 looks at what rule 4 left.
 pub fn narrow_next(arrays: &Arrays, four: bool, five: bool, i: usize, w: &mut [u16])
     requires { (i < arrays.now.n) × (96 ≤ length w.old) }
-    ensures { NarrowsNext arrays.now.n arrays.now four five i
-        w.old w.new }
+    ensures { NarrowsNext arrays.now.n arrays.now four five i w.old w.new }
 {
     w[i] = after_pure(arrays, four, i, w);
     w[i] = after_interchangeable(arrays, five, i, w);

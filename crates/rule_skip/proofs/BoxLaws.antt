@@ -2,14 +2,12 @@
 use mathlib.Core.Path.{◌≡◌, refl, sym, ap, ap₂, subst, ◌∙◌, fun_ext}
 use mathlib.Core.Bool.{Bool, true, false, cond}
 use mathlib.Core.List.{List}
-use Prim.Native.Nat.{ℕ, zero, suc, ◌+◌, ◌%◌, ◌^◌, ◌≤◌, ◌<◌}
+use Prim.Native.Nat.{ℕ, ◌+◌, ◌%◌, ◌^◌, ◌<◌}
 use native.Mathlib.Nat.{mod-eq_of_lt}
-use native.Mathlib.Omega.{arith}
-use lib.Bits.{bit_and, and_mask, and_zero_l}
+use lib.Bits.{bit_and, and_mask}
 use lib.Dec.{T, eqb→eq}
 use lib.ListN.{get_or}
 use borrow.Author.Tests.{eq-eqb, ne_eqb}
-use Rattle.std.specs.List.{list_all, range_with_len}
 use Rattle.mask.specs.Range.{each, first}
 use Rattle.mask.specs.Mask.{bit, mask_of, rest, above}
 use Rattle.mask.proofs.Logic.{same, holds, clash, test, by_eq, and_in, and_out}
@@ -21,23 +19,6 @@ use Rattle.solver_arrays.specs.Arrays.{row_in, common_in}
 use Rattle.solver_arrays.proofs.RowLaws.{full, common_lt}
 use Rattle.rule_skip.specs.Skip.{box_in, box_goes, goes_above, tested_above, LeafKeeps, left_by, left_of}
 use Rattle.solver_arrays.specs.declared.arrays.Arrays.{Arrays}
-
--- A test of each number below n, one after another.
-listed_out : (f : ℕ → Bool) (n a : ℕ) → T (list_all f (range_with_len a n)) → (k : ℕ) → a ≤ k → k < a + n → T (f k)
-listed_out f zero a t k l m = absurd (omega arith)
-listed_out f (suc n) a t k l m =
-    let q = and_out (f a) (list_all f (range_with_len (a + 1) n)) t in
-    by_eq k a (λ e. rw e q.0) (λ e. listed_out f n (a + 1) q.1 k (omega arith) (omega arith))
-
-listed_in : (f : ℕ → Bool) (n a : ℕ) → ((k : ℕ) → a ≤ k → k < a + n → T (f k)) → T (list_all f (range_with_len a n))
-listed_in f zero a h = tt
-listed_in f (suc n) a h =
-    and_in (f a) (list_all f (range_with_len (a + 1) n)) (h a (omega arith) (omega arith)) (listed_in f n (a + 1) (λ k l m. h k (omega arith) (omega arith)))
-
-pub each_listed : (n : ℕ) (f : ℕ → Bool) → list_all f (range_with_len 0 n) ≡ each n (λ j. true) f
-each_listed n f = same (list_all f (range_with_len 0 n)) (each n (λ j. true) f)
-    (λ t. each_in n (λ j. true) f λ k l _. listed_out f n 0 t k (omega arith) (omega arith))
-    (λ t. listed_in f n 0 λ k _ m. each_out n (λ j. true) f t k (omega arith) tt)
 
 -- What a variable may have: i nothing, a later universal variable its mask, any other the leaf's value.
 module _ (later i : ℕ) (w : List ℕ) (j : ℕ) where
@@ -52,22 +33,6 @@ module _ (later i : ℕ) (w : List ℕ) (j : ℕ) where
   pub box-leaf : ¬ (j ≡ i) → bit later j ≡ false → 2 ^ (get_or w (96 + j) 0 % 16) ≡ box_in later i w j
   unfolding box_in
   box-leaf d e = rw (ne_eqb j i d, e)
-
--- The values that one neighbour leaves.
-pub left_by_is :
-    (A : Arrays) (later i : ℕ) (w : List ℕ) (j m r : ℕ) → m ≡ box_in later i w j → r ≡ common_in A j m i → r ≡ left_by A later i w j
-unfolding left_by
-left_by_is A later i w j m r e q = q ∙ ap (λ x. common_in A j x i) e
-
--- What is tested above j, by its side.
-module _ (A : Arrays) (later j m : ℕ) (e : m ≡ above (get_or A.near j 0) j) where
-  pub tested_later : bit later j ≡ true → m ≡ tested_above A later j
-  unfolding tested_above
-  tested_later t = rw t e
-
-  pub tested_leaf : bit later j ≡ false → bit_and m later ≡ tested_above A later j
-  unfolding tested_above
-  tested_leaf f = rw f (ap (λ m. bit_and m later) e)
 
 module _ (A : Arrays) (later i : ℕ) (w : List ℕ) (j : ℕ) (keeps : LeafKeeps A w j) where
   -- A variable that is no later universal one has the leaf's value, if any.
@@ -135,16 +100,13 @@ module _ (A : Arrays) (later i : ℕ) (w : List ℕ) where
       ∙ sym (mask_of_and 16 (λ b. f b j) (λ b. each 32 (bit (rest m)) (f b)))
       ∙ ap (λ y. bit_and y (mask_of 16 (λ b. each 32 (bit (rest m)) (f b)))) (sym (mask_of_bits 16 _ (left_by_lt j)))
 
-  -- One neighbour more; no value is left; no neighbour is left.
+  -- One neighbour more, and no neighbour left.
   pub left-next :
       (out m all j r m' : ℕ) → out < 65536 → m < 2 ^ 32 → ¬ (m ≡ 0) → j ≡ first 32 (bit m) → r ≡ left_by A later i w j → m' ≡ rest m
       → all ≡ bit_and out (left_of A later i w m) → all ≡ bit_and (bit_and out r) (left_of A later i w m')
   left-next out m all j r m' o h z p q e a =
       a ∙ ap (bit_and out) (left-rest m h z) ∙ sym (and_assoc 16 out _ _ o)
       ∙ ap₂ (λ x y. bit_and (bit_and out x) (left_of A later i w y)) (sym (q ∙ ap (left_by A later i w) p)) (sym e)
-
-  pub left-stop : (out m all : ℕ) → out ≡ 0 → all ≡ bit_and out (left_of A later i w m) → 0 ≡ all
-  left-stop out m all z a = sym (a ∙ ap (λ x. bit_and x (left_of A later i w m)) z ∙ and_zero_l (left_of A later i w m))
 
   pub left_end : (out m all : ℕ) → out < 65536 → m ≡ 0 → all ≡ bit_and out (left_of A later i w m) → out ≡ all
   left_end out m all h z a = sym (a ∙ ap (λ y. bit_and out (left_of A later i w y)) z ∙ ap (bit_and out) left_none ∙ and_mask out 16 ∙ mod-eq_of_lt h)

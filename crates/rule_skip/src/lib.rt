@@ -18,15 +18,16 @@ fn box_of(later: u32, i: usize, j: usize, w: &[u16]) -> u16
     ensures { result ≡ box_in later i w.now j }
 {
     if j == i {
-        return 0;
+        0
+    } else if contains(later, j) {
+        w[j]
+    } else {
+        single((w[96 + j] % 16) as usize)
     }
-    if contains(later, j) {
-        return w[j];
-    }
-    single((w[96 + j] % 16) as usize)
 }
 
 // Whether every value that k may have goes with each value of the mask m of j.
+#[tactic(auto, unfolding(crate::specs::Skip::box_goes))]
 fn box_goes(arrays: &Arrays, later: u32, i: usize, j: usize, m: u16, k: usize, w: &[u16]) -> bool
     requires { (j < 32) × (k < 32) × (128 ≤ length w.now) }
     ensures { result ≡ box_goes arrays.now later i w.now j m k }
@@ -36,15 +37,17 @@ fn box_goes(arrays: &Arrays, later: u32, i: usize, j: usize, m: u16, k: usize, w
 
 // The neighbours above j whose values need a test. A leaf that is handed up breaks no constraint: pairs of two of its values
 // need none.
+#[tactic(auto, unfolding(crate::specs::Skip::tested_above))]
 fn tested_above(arrays: &Arrays, later: u32, j: usize) -> u32
     requires { j < 32 }
     ensures { result ≡ tested_above arrays.now later j }
 {
     let above = arrays.later_neighbours(j);
-    if !contains(later, j) {
-        return above & later;
+    if contains(later, j) {
+        above
+    } else {
+        above & later
     }
-    above
 }
 
 // Whether the values of j and those of each neighbour above it go together.
@@ -65,6 +68,7 @@ fn boxes_fit(arrays: &Arrays, later: u32, i: usize, w: &[u16]) -> bool
 }
 
 // The values of i that go with every value that j may have.
+#[tactic(auto, unfolding(crate::specs::Skip::left_by))]
 fn left_by(arrays: &Arrays, later: u32, i: usize, j: usize, w: &[u16]) -> u16
     requires { (i < 32) × (j < 32) × (128 ≤ length w.now) }
     ensures { result ≡ left_by arrays.now later i w.now j }
@@ -75,8 +79,7 @@ fn left_by(arrays: &Arrays, later: u32, i: usize, j: usize, w: &[u16]) -> u16
 // The values of i in the mask m that do so for each neighbour.
 fn values_left(arrays: &Arrays, later: u32, i: usize, m: u16, w: &[u16]) -> u16
     requires { (i < 32) × (128 ≤ length w.now) }
-    ensures { result ≡ bit_and m
-        (left_of arrays.now later i w.now (get_or arrays.now.near i 0)) }
+    ensures { result ≡ bit_and m (left_of arrays.now later i w.now (get_or arrays.now.near i 0)) }
 {
     let mut out = m;
     for j in members_of(arrays.neighbours(i)) {
@@ -90,8 +93,7 @@ fn values_left(arrays: &Arrays, later: u32, i: usize, m: u16, w: &[u16]) -> u16
 
 // The values of i in the mask m that rule 7 skips after the leaf in the words, which breaks no constraint.
 pub fn skippable_values(arrays: &Arrays, i: usize, m: u16, w: &[u16]) -> u16
-    requires { (i < arrays.now.n) × (128 ≤ length w.now)
-        × LeafHolds arrays.now.n arrays.now w.now }
+    requires { (i < arrays.now.n) × (128 ≤ length w.now) × LeafHolds arrays.now.n arrays.now w.now }
     ensures { Skips arrays.now.n arrays.now i m w.now result }
 {
     let later = members_above(arrays.universal, i);

@@ -35,7 +35,7 @@ fn first_clash(arrays: &Arrays, x: usize, w: &[u16]) -> Option<usize>
 
 // The mask of the two variables of the first broken constraint, ascending by (x, y).
 pub fn first_broken(arrays: &Arrays, w: &[u16]) -> Option<u32>
-    requires { (96 ≤ length w.now) }
+    requires { 96 ≤ length w.now }
     ensures { Tells arrays.now w.now result }
 {
     for x in 0..arrays.n {
@@ -47,11 +47,11 @@ pub fn first_broken(arrays: &Arrays, w: &[u16]) -> Option<u32>
 }
 
 // The value of each variable, in the words of the leaf.
-pub fn copy_leaf(n: usize, w: &mut [u16])
-    requires { (n ≤ 32) × (128 ≤ length w.old) }
-    ensures { w.new ≡ with_leaf n w.old }
+pub fn copy_leaf(arrays: &Arrays, w: &mut [u16])
+    requires { 128 ≤ length w.old }
+    ensures { w.new ≡ with_leaf arrays.now.n w.old }
 {
-    for j in 0..n {
+    for j in 0..arrays.n {
         w[96 + j] = value_of(w[j]);
     }
 }

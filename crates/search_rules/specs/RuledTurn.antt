@@ -92,12 +92,6 @@ module _ (n : ℕ) (A : Arrays) where
   AheadTurn on d w lost conflict =
       (P : Problem) → States P n A → Replied n w w lost conflict (choose on (explain_ahead P d) (list_in n w) (why_in n w))
 
-  -- Rule 2, or else rule 1.
-  pub record RuleTurn (rule : ℕ) (on : Bool) (c d : ℕ) (w w' : List ℕ) (lost : Bool) (conflict narrowed : ℕ) : Type 0 where
-    pub checks : rule ≡ 2 → ChecksTurn on c d w w' lost conflict narrowed
-    pub arcs : ¬ (rule ≡ 2) → ArcTurn on w w' lost conflict
-    pub lasts : Lasting n w' lost
-
   -- All rules of the turn, by the rule set.
   pub record RuledTurn (set c d : ℕ) (w w' : List ℕ) (lost : Bool) (conflict : ℕ) : Type 0 where
     pub replies : (P : Problem) → States P n A → (p : List ℕ) → Plays c d p w

@@ -9,7 +9,7 @@ ghost use Rattle.solver_arrays.specs.Words.{Nonzero};
 ghost use Rattle.rule_arc.specs.ArcRule.{CalmBut};
 ghost use Rattle.search_rules.specs.Reply.{narrowed_of};
 ghost use Rattle.solver_arrays.specs.Words.{conflict_of};
-ghost use Rattle.search_rules.specs.RuledTurn.{Stated, Outside, Settled, CheckedPlay, ChecksTurn, ArcTurn, AheadTurn, RuleTurn, RuledTurn};
+ghost use Rattle.search_rules.specs.RuledTurn.{Stated, Outside, Settled, CheckedPlay, ChecksTurn, ArcTurn, AheadTurn, RuledTurn};
 
 use mask::{everyone, lowest, single};
 use rule_arc::arc;
@@ -26,12 +26,12 @@ fn check_play(arrays: &Arrays, x: usize, w: &mut [u16]) -> Result<u32, Loss>
 {
     let a = lowest(w[x]) as usize;
     let f = forward(arrays, x, a, w);
-    if let Some(k) = f.named {
-        return Err(Loss {
+    match f.named {
+        Some(k) => Err(Loss {
             conflict: forward_conflict(arrays, w, x, k),
-        });
+        }),
+        None => Ok(f.narrowed),
     }
-    Ok(f.narrowed)
 }
 
 // Rule 2 for the plays of a turn that are not yet checked.
@@ -74,12 +74,12 @@ fn checks_turn(arrays: &Arrays, on: bool, c: usize, d: usize, w: &mut [u16]) -> 
 
 // The variables that rule 1 looks at: those whose domains are not what it left in the turn above. Where c is 0 there may
 // be no such turn. Rule 2 leaves the play c without effect.
-fn changed_by(n: usize, c: usize, d: usize, on: bool, narrowed: u32) -> u32
-    requires { (n ≤ 32) × (c ≤ d) × (d ≤ n) }
-    ensures { Outside n c d on narrowed result }
+fn changed_by(arrays: &Arrays, c: usize, d: usize, on: bool, narrowed: u32) -> u32
+    requires { (c ≤ d) × (d ≤ arrays.now.n) }
+    ensures { Outside arrays.now.n c d on narrowed result }
 {
     if c == 0 || c + 1 != d {
-        return everyone(n);
+        return everyone(arrays.n);
     }
     if on {
         narrowed
@@ -89,40 +89,14 @@ fn changed_by(n: usize, c: usize, d: usize, on: bool, narrowed: u32) -> u32
 }
 
 // Rule 1 where it is on.
-fn arc_turn(arrays: &Arrays, on: bool, changed: u32, w: &mut [u16]) -> Result<u32, Loss>
+fn arc_turn(arrays: &Arrays, on: bool, changed: u32, w: &mut [u16]) -> Result<(), Loss>
     requires { (96 ≤ length w.old) × Nonzero arrays.now.n w.old
         × Stated arrays.now.n arrays.now
         × (on ≡ true → CalmBut arrays.now.n changed arrays.now w.old) }
     ensures { ArcTurn arrays.now.n arrays.now on w.old
         w.new (is_err result) (conflict_of result) }
 {
-    if on {
-        arc(arrays, changed, w)?;
-    }
-    Ok(0)
-}
-
-// Rule 2, or else rule 1, where it is on. `changed` is for rule 1.
-fn rule_turn(
-    rule: usize,
-    arrays: &Arrays,
-    on: bool,
-    changed: u32,
-    c: usize,
-    d: usize,
-    w: &mut [u16],
-) -> Result<u32, Loss>
-    requires { (c ≤ d) × (d ≤ arrays.now.n) × (96 ≤ length w.old) × Nonzero arrays.now.n w.old
-        × Stated arrays.now.n arrays.now
-        × (¬ (rule ≡ 2) → on ≡ true → CalmBut arrays.now.n changed arrays.now w.old) }
-    ensures { RuleTurn arrays.now.n arrays.now rule on c d
-        w.old w.new (is_err result) (conflict_of result) (narrowed_of result) }
-{
-    if rule == 2 {
-        checks_turn(arrays, on, c, d, w)
-    } else {
-        arc_turn(arrays, on, changed, w)
-    }
+    if on { arc(arrays, changed, w) } else { Ok(()) }
 }
 
 // Rule 3 at variable d where it is on.
@@ -157,9 +131,9 @@ pub fn run_rules(
         w.old w.new (is_err result) (conflict_of result) }
 {
     let checked = set.uses(2);
-    let narrowed = rule_turn(2, arrays, checked, 0, c, d, w)?;
-    let changed = changed_by(arrays.n, c, d, checked, narrowed);
+    let narrowed = checks_turn(arrays, checked, c, d, w)?;
+    let changed = changed_by(arrays, c, d, checked, narrowed);
     let used = set.uses(1);
-    rule_turn(1, arrays, used, changed, c, d, w)?;
+    arc_turn(arrays, used, changed, w)?;
     ahead_turn(arrays, ahead_used(set, arrays.n, d), d, w)
 }

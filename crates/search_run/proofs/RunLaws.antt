@@ -28,7 +28,7 @@ use Rattle.search_words.specs.TurnRoom.{zeroed}
 use Rattle.search_words.proofs.RoomLaws.{length-zeroed, zeroed_at, zeroed_other}
 use Rattle.search_steps.specs.declared.Outcome.{Outcome}
 use Rattle.search_steps.specs.declared.Outcome.TheVariants.{Won, Lost}
-use Rattle.search_steps.specs.TurnReply.{won_of, loss_of, set_of, reply_in, room_of, Stands, Blank, Leaves, TurnReplies}
+use Rattle.search_steps.specs.TurnReply.{won_of, set_of, reply_in, room_of, Stands, Blank, Leaves, TurnReplies}
 use Rattle.search_run.specs.declared.Ran.{Ran}
 use Rattle.search_run.specs.FirstTurn.{ZeroBelow, FirstWords}
 use Rattle.search_run.specs.Run.{room_words, leaf_shown, conflict_shown, Finds}
@@ -56,9 +56,9 @@ module _ (A : Arrays) (S : ℕ) (p : Position) (long : length p.values ≡ 32) (
   }
 
   -- What the run finds, where the turn leaves the words y.
-  module _ (y : List ℕ) (o : Outcome) (t : TurnReplies A.n A S 0 p.plays x y o) (r : Ran) (loss : r.loss ≡ loss_of o) (won : r.won ≡ won_of o)
-      (list : r.list ≡ spread (list_in A.n y)) (leaf : r.leaf ≡ spread (leaf_in A.n y)) (conflict : r.conflict ≡ set_of o) (h : p.plays ≤ A.n) where
-    shown : (b : Bool) → won_of o ≡ b → spread (leaf_in A.n y) ≡ leaf_shown (cond b (solved (leaf_in A.n y)) (failed (set_of o)))
+  module _ (y : List ℕ) (r : Ran) (t : TurnReplies A.n A S 0 p.plays x y r.outcome)
+      (list : r.list ≡ spread (list_in A.n y)) (leaf : r.leaf ≡ spread (leaf_in A.n y)) (h : p.plays ≤ A.n) where
+    shown : (b : Bool) → won_of r.outcome ≡ b → spread (leaf_in A.n y) ≡ leaf_shown (cond b (solved (leaf_in A.n y)) (failed (set_of r.outcome)))
     unfolding leaf_shown
     shown true e = refl
     shown false e = no_leaf A.n y (λ k l u. t.room.lost e k l (omega arith)) A.most
@@ -68,12 +68,12 @@ module _ (A : Arrays) (S : ℕ) (p : Position) (long : length p.values ≡ 32) (
     told Won = refl
     told (Lost by q) = refl
 
-    solved_is : (b : Bool) → b ≡ is_solved (cond b (solved (leaf_in A.n y)) (failed (set_of o)))
+    solved_is : (b : Bool) → b ≡ is_solved (cond b (solved (leaf_in A.n y)) (failed (set_of r.outcome)))
     solved_is true = refl
     solved_is false = refl
 
     module _ (P : Problem) (q : Poses P A) where
-      verdict : search_from P S (plays_of p) ≡ cond (won_of o) (solved (leaf_in A.n y)) (failed (set_of o))
+      verdict : search_from P S (plays_of p) ≡ cond (won_of r.outcome) (solved (leaf_in A.n y)) (failed (set_of r.outcome))
       unfolding search_from reply_in
       verdict =
           let c = plays_count P A q S p long fits w x f in
@@ -88,11 +88,11 @@ module _ (A : Arrays) (S : ℕ) (p : Position) (long : length p.values ≡ 32) (
           let a = t.reach P q.states (plays_of p) (first_in P A q S p long fits w x f) in
           let l = first-list P A q S p long fits w x f in
           record {
-            loss = loss ∙ a.loss ∙ ap (λ (l : List ℕ). (reached P S 0 (plays_of p) l).loss) l;
+            loss = a.loss ∙ ap (λ (l : List ℕ). (reached P S 0 (plays_of p) l).loss) l;
             list = list ∙ ap spread (a.list ∙ ap (λ (l : List ℕ). (reached P S 0 (plays_of p) l).list) l);
-            won = won ∙ solved_is (won_of o) ∙ sym (ap is_solved verdict);
-            conflict = conflict ∙ told o ∙ sym (ap conflict_shown verdict);
-            leaf = leaf ∙ shown (won_of o) refl ∙ sym (ap leaf_shown verdict);
+            won = solved_is (won_of r.outcome) ∙ sym (ap is_solved verdict);
+            conflict = told r.outcome ∙ sym (ap conflict_shown verdict);
+            leaf = leaf ∙ shown (won_of r.outcome) refl ∙ sym (ap leaf_shown verdict);
           }
 
 -- The room: blank before the turn, and as it was after it, since the turn leaves zeros behind its own words and these are cleared.

@@ -8,6 +8,7 @@ use Rattle.solver_arrays.specs.declared.arrays.Arrays.{Arrays}
 use Rattle.solver_arrays.specs.Arrays.{Poses, Posed}
 use Rattle.position.specs.declared.Position.{Position}
 use Rattle.position.specs.Position.{plays_of, fits_in}
+use Rattle.search_steps.specs.TurnReply.{won_of, loss_of, set_of}
 use Rattle.search_run.specs.declared.Ran.{Ran}
 use Rattle.search_run.specs.declared.Start.{Start}
 
@@ -35,10 +36,10 @@ conflict_shown (failed S) = S
 -- What the run r under S from the position p finds in P: whether the rules of the first turn find a loss, and the list that they reach, at a loss as
 -- the rule that found it left the list; whether the search is won, its conflict set where it is lost, its leaf where it is won.
 pub record Finds (P : Problem) (S : ℕ) (p : Position) (r : Ran) : Type 0 where
-  pub loss : r.loss ≡ (reached P S 0 (plays_of p) (first_list P (plays_of p))).loss
+  pub loss : loss_of r.outcome ≡ (reached P S 0 (plays_of p) (first_list P (plays_of p))).loss
   pub list : r.list ≡ spread (reached P S 0 (plays_of p) (first_list P (plays_of p))).list
-  pub won : r.won ≡ is_solved (search_from P S (plays_of p))
-  pub conflict : r.conflict ≡ conflict_shown (search_from P S (plays_of p))
+  pub won : won_of r.outcome ≡ is_solved (search_from P S (plays_of p))
+  pub conflict : set_of r.outcome ≡ conflict_shown (search_from P S (plays_of p))
   pub leaf : r.leaf ≡ leaf_shown (search_from P S (plays_of p))
 
 -- What a run is given: the arrays state some problem, and its position fits them.

@@ -7,7 +7,7 @@ ghost use Rattle.search_run.specs.FirstTurn.{ZeroBelow, words_from, own_reasons,
 
 use mask::single;
 use position::{Position, narrowed_domains};
-use solver_arrays::put_reason;
+use solver_arrays::{Arrays, put_reason};
 
 // Each of the d played variables is its own reason.
 fn own_reasons(d: usize, w: &mut [u16])
@@ -20,13 +20,12 @@ fn own_reasons(d: usize, w: &mut [u16])
 }
 
 // The words of the first turn: the position's domains, and its reasons.
-pub fn first_words(p: Position, n: usize, domains: &[u16; 32], w: &mut [u16])
-    requires { (n ≤ 32) × (96 ≤ length w.old) × T (fits_in p n domains.now) × ZeroBelow 96 w.old }
-    ensures { FirstWords p n domains.now w.old w.new }
+pub fn first_words(arrays: &Arrays, p: Position, w: &mut [u16])
+    requires { (96 ≤ length w.old) × T (fits_in p arrays.now.n arrays.now.domains) × ZeroBelow 96 w.old }
+    ensures { FirstWords p arrays.now.n arrays.now.domains w.old w.new }
 {
-    let d = p.plays;
-    narrowed_domains(p, n, domains, w);
-    own_reasons(d, w);
+    narrowed_domains(p, arrays.n, &arrays.domains, w);
+    own_reasons(p.plays, w);
 }
 
 // The `count` words from `start` on, and zero behind them.
@@ -40,17 +39,17 @@ fn places(start: usize, count: usize, w: &[u16]) -> [u16; 32]
 }
 
 // The list that a turn left, and zero behind its n domains.
-pub fn list_of(n: usize, w: &[u16]) -> [u16; 32]
-    requires { (n ≤ 32) × (128 ≤ length w.now) }
-    ensures { result ≡ spread (list_in n w.now) }
+pub fn list_of(arrays: &Arrays, w: &[u16]) -> [u16; 32]
+    requires { 128 ≤ length w.now }
+    ensures { result ≡ spread (list_in arrays.now.n w.now) }
 {
-    places(0, n, w)
+    places(0, arrays.n, w)
 }
 
 // The leaf of a turn, and zero behind its n values.
-pub fn leaf_of(n: usize, w: &[u16]) -> [u16; 32]
-    requires { (n ≤ 32) × (128 ≤ length w.now) }
-    ensures { result ≡ spread (leaf_in n w.now) }
+pub fn leaf_of(arrays: &Arrays, w: &[u16]) -> [u16; 32]
+    requires { 128 ≤ length w.now }
+    ensures { result ≡ spread (leaf_in arrays.now.n w.now) }
 {
-    places(96, n, w)
+    places(96, arrays.n, w)
 }

@@ -26,25 +26,22 @@ pub struct Start {
     pub position: Position,
 }
 
-// What a search from a position comes to: what the rules of the first turn reached, and the outcome.
+// What a search from a position comes to: its outcome, the list that the rules of the first turn reached, and the leaf of a won search.
 #[derive(Clone, Copy)]
 pub struct Ran {
-    pub loss: bool,
+    pub outcome: Outcome,
     pub list: [u16; 32],
-    pub won: bool,
-    pub conflict: u32,
     pub leaf: [u16; 32],
 }
 
-// The words that every file's search can do with, for the entries that hold their own room: `room_needed(32)`.
+// The words that every file's search can do with, for the entries that hold their own room: those of 32 variables.
 pub const ROOM: usize = 4224;
 
-// How many words a search of n variables has.
-pub fn room_needed(n: usize) -> usize
-    requires { n ≤ 32 }
-    ensures { result ≡ room_words n }
+// How many words a search over the arrays has.
+pub fn room_needed(arrays: &Arrays) -> usize
+    ensures { result ≡ room_words arrays.now.n }
 {
-    128 * (n + 1)
+    128 * (arrays.n + 1)
 }
 
 // The search in the room of its first turn, whose words are zero before and afterwards.
@@ -55,27 +52,15 @@ fn run_in(arrays: &Arrays, s: Start, room: &mut [u16]) -> Ran
         × (room.new ≡ room.old) }
 {
     let p = s.position;
-    let n = arrays.n;
-    first_words(p, n, &arrays.domains, room);
-    let o = turn(arrays, s.set, 0, p.plays, room);
-    let list = list_of(n, room);
-    let leaf = leaf_of(n, room);
+    first_words(arrays, p, room);
+    let outcome = turn(arrays, s.set, 0, p.plays, room);
+    let list = list_of(arrays, room);
+    let leaf = leaf_of(arrays, room);
     zero_words(0, 128, room);
-    match o {
-        Outcome::Won => Ran {
-            loss: false,
-            list,
-            won: true,
-            conflict: 0,
-            leaf,
-        },
-        Outcome::Lost { by_rules, conflict } => Ran {
-            loss: by_rules,
-            list,
-            won: false,
-            conflict,
-            leaf,
-        },
+    Ran {
+        outcome,
+        list,
+        leaf,
     }
 }
 
@@ -85,7 +70,7 @@ pub fn run(arrays: &Arrays, s: Start, room: &mut [u16]) -> Ran
     ensures { Runs arrays.now s.set.bits s.position result
         × (room.new ≡ zeroed 0 (room_words arrays.now.n) room.old) }
 {
-    zero_words(0, room_needed(arrays.n), room);
+    zero_words(0, room_needed(arrays), room);
     let d = s.position.plays;
     run_in(arrays, s, &mut room[128 * d..])
 }

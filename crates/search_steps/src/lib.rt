@@ -11,7 +11,7 @@ ghost use Rattle.solver_arrays.specs.Words.{Nonzero, conflict_of};
 ghost use Rattle.rule_skip.specs.Skip.{LeafHolds};
 ghost use Rattle.search_rules.specs.RuledTurn.{Stated, Settled};
 ghost use Rattle.search_words.specs.TurnRoom.{zeroed, leaf_taken};
-ghost use Rattle.search_steps.specs.TurnReply.{Blank, Stands, TellsBroken, TurnReplies};
+ghost use Rattle.search_steps.specs.TurnReply.{Blank, Stands, TellsBroken, TurnReplies, won_of, loss_of, set_of};
 ghost use Rattle.search_steps.specs.TurnSteps.{left_of, narrowed_of, EntersTurn, LeavesUntried};
 
 use mask::contains;
@@ -28,6 +28,38 @@ use solver_arrays::{Arrays, Loss};
 pub enum Outcome {
     Won,
     Lost { by_rules: bool, conflict: u32 },
+}
+
+impl Outcome {
+    // Whether it is a win.
+    pub fn is_won(self) -> bool
+        ensures { result ≡ won_of self }
+    {
+        match self {
+            Outcome::Won => true,
+            Outcome::Lost { .. } => false,
+        }
+    }
+
+    // Whether it is a loss that the rules of the turn found.
+    pub fn by_rules(self) -> bool
+        ensures { result ≡ loss_of self }
+    {
+        match self {
+            Outcome::Won => false,
+            Outcome::Lost { by_rules, .. } => by_rules,
+        }
+    }
+
+    // The conflict set of a loss; empty for a win.
+    pub fn conflict(self) -> u32
+        ensures { result ≡ set_of self }
+    {
+        match self {
+            Outcome::Won => 0,
+            Outcome::Lost { conflict, .. } => conflict,
+        }
+    }
 }
 
 // The mask of the two variables of the first broken constraint. Below a turn with rule 1 none is broken (theory, `turn_unbroken`).
@@ -68,7 +100,7 @@ pub fn last_turn(arrays: &Arrays, set: RuleSet, c: usize, room: &mut [u16]) -> O
         room.old room.new result }
 {
     let Some(broken) = broken_in(arrays, set, c, room) else {
-        copy_leaf(arrays.n, room);
+        copy_leaf(arrays, room);
         return Outcome::Won;
     };
     let said = run_rules(arrays, set, c, arrays.n, room);

@@ -27,11 +27,11 @@ use Rattle.theory.proofs.TurnLists.{legal_out}
 use Rattle.theory.proofs.Standing.{legal-after, standing-legal}
 use Rattle.file_decoder.specs.FileProblem.{problem_of}
 use Rattle.position.specs.declared.Position.{Position}
-use Rattle.position.specs.Position.{shown, plays_of, fits_in}
+use Rattle.position.specs.Position.{shown, plays_of, fits_in, fit_test}
 use Rattle.position.proofs.Fitting.{legal-fits}
 use Rattle.position.proofs.Shown.{plays_shown, pushed-shown, popped-shown, length-without_last}
 use Rattle.session.specs.declared.Opened.{Opened}
-use Rattle.session.specs.Plays.{fit_test, play_test, take_back_test, play_in, take_back_in}
+use Rattle.session.specs.Plays.{play_test, take_back_test, play_in, take_back_in}
 use Rattle.session.specs.Opening.{opened_after, open_in}
 use Rattle.session.specs.Told.{told, left, told_opened, play_told, play_left, take_back_told, take_back_left, open_told}
 use Rattle.session.specs.History.{call_told, step, reached_from, reached_by, list_told, list_opened}
@@ -112,7 +112,7 @@ module _ (f : List ℕ) (fine : verdict_of f ≡ Fine) where
   abbrev P : Problem
   P = problem_of f fine
 
-  few : P.n ≤ 32
+  pub few : P.n ≤ 32
   unfolding problem_of
   few = variables_most f fine
 

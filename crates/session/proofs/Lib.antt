@@ -2,8 +2,6 @@
 
 -- Plays and take-backs: what their tests say, and the same over a file's domains and a problem's.
 pub mod PlayLaws
--- `any` over the numbers below a bound.
-pub mod Below
 -- Open values over arrays, and in the problem that these state.
 pub mod OpenLaws
 -- What a file's verdict makes of a call.

@@ -36,10 +36,9 @@ use Rattle.solver_arrays.specs.Arrays.{row_in}
 use Rattle.solver_arrays.specs.Going.{value_at, going_with}
 use Rattle.solver_arrays.proofs.GoingLaws.{going_lt, going_bit, going_none, going_all}
 use Rattle.position.specs.declared.Position.{Position}
-use Rattle.position.specs.Position.{plays_of, fits_at, fits_in}
+use Rattle.position.specs.Position.{plays_of, fits_at, fits_in, fit_test}
 use Rattle.position.proofs.Fitting.{fits_plays, fits_at_lem, length_plays, get_d_plays, played_small}
 use Rattle.session.specs.declared.Opened.{Opened}
-use Rattle.session.specs.Plays.{fit_test}
 use Rattle.session.specs.Opening.{PosesOwn, opened_after, open_in, play_clashes, stuck_at, cause_at, stuck_to, open_mask, open_at, open_masks, mask_counts, open_all}
 use Rattle.session.proofs.PlayLaws.{fit_fine, fit_same}
 
@@ -50,27 +49,28 @@ pub play_clash : (A : Arrays) (values : List ℕ) (j v own left : ℕ) (r : Bool
 unfolding play_clashes
 play_clash A values j v own left r e f g q = q ∙ ap (λ m. eqb m 0) (g ∙ ap (λ m. going_with A values j m j) (f ∙ ap (λ a. 2 ^ a) e))
 
-module _ (A : Arrays) (values : List ℕ) (k : ℕ) where
-  pub stuck-played : (m j : ℕ) (r : Bool) → j < k → r ≡ play_clashes A values j → r ≡ stuck_at A values k m j
-  unfolding stuck_at
-  stuck-played m j r h e = rw (lt-ltb j k h) e
+module _ (A : Arrays) (p : Position) where
+  pub stuck-played : (j : ℕ) (r : Bool) → j < p.plays → r ≡ play_clashes A p.values j → r ≡ cause_at A p j
+  unfolding cause_at stuck_at
+  stuck-played j r h e = rw (lt-ltb j p.plays h) e
 
-  pub stuck-universal : (m j left : ℕ) (r : Bool) → k ≤ j → bit A.universal j ≡ true → left ≡ going_with A values k m j → r ≡ not (eqb left m) → r ≡ stuck_at A values k m j
-  unfolding stuck_at
-  stuck-universal m j left r h s e q = rw (le-ltb j k h, s, sym e) q
+  pub stuck-universal : (m j left : ℕ) (r : Bool) → m ≡ get_or A.domains j 0 → p.plays ≤ j → bit A.universal j ≡ true → left ≡ going_with A p.values p.plays m j
+      → r ≡ not (eqb left m) → r ≡ cause_at A p j
+  unfolding cause_at stuck_at
+  stuck-universal m j left r d h s e q = rw (le-ltb j p.plays h, s, sym d, sym e) q
 
-  pub stuck_existential : (m j left : ℕ) (r : Bool) → k ≤ j → bit A.universal j ≡ false → left ≡ going_with A values k m j → r ≡ eqb left 0 → r ≡ stuck_at A values k m j
-  unfolding stuck_at
-  stuck_existential m j left r h s e q = rw (le-ltb j k h, s, sym e) q
+  pub stuck_existential : (m j left : ℕ) (r : Bool) → m ≡ get_or A.domains j 0 → p.plays ≤ j → bit A.universal j ≡ false → left ≡ going_with A p.values p.plays m j
+      → r ≡ eqb left 0 → r ≡ cause_at A p j
+  unfolding cause_at stuck_at
+  stuck_existential m j left r d h s e q = rw (le-ltb j p.plays h, s, sym d, sym e) q
 
   -- The three choices of a mask.
-  pub open_chosen : (closed whole : Bool) (m j own going unplayed usable r : ℕ) → own ≡ 2 ^ value_at values j → going ≡ going_with A values k m j → whole ≡ bit A.universal j
-      → unplayed ≡ cond whole m going → usable ≡ cond closed 0 unplayed → r ≡ cond (ltb j k) own usable → r ≡ open_mask A closed values k m j
-  unfolding open_mask
-  open_chosen closed whole m j own going unplayed usable r a b w c d e =
-      e ∙ ap₂ (cond (ltb j k)) a (d ∙ ap (cond closed 0) (c ∙ ap₂ (λ x y. cond x m y) w b))
+  pub open_chosen : (closed whole : Bool) (m j own going unplayed usable r : ℕ) → m ≡ get_or A.domains j 0 → own ≡ 2 ^ value_at p.values j → going ≡ going_with A p.values p.plays m j
+      → whole ≡ bit A.universal j → unplayed ≡ cond whole m going → usable ≡ cond closed 0 unplayed → r ≡ cond (ltb j p.plays) own usable → r ≡ open_at A p closed j
+  unfolding open_at open_mask
+  open_chosen closed whole m j own going unplayed usable r i a b w c d e =
+      rw (sym i) (e ∙ ap₂ (cond (ltb j p.plays)) a (d ∙ ap (cond closed 0) (c ∙ ap₂ (λ x y. cond x m y) w b)))
 
-module _ (A : Arrays) (p : Position) where
   module _ (closed : Bool) where
     pub masks_next : (w : List ℕ) (j r : ℕ) → j < 32 → w ≡ spread (open_masks A p closed j) → r ≡ open_at A p closed j
         → set w j r ≡ spread (open_masks A p closed (j + 1))

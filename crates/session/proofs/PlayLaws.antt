@@ -15,9 +15,9 @@ use Rattle.refusal.specs.Replied.{passed}
 use Rattle.refusal.proofs.Chain.{need_fine}
 use Rattle.game.specs.Problem.{Problem}
 use Rattle.position.specs.declared.Position.{Position}
-use Rattle.position.specs.Position.{pushed, popped, fits_in}
+use Rattle.position.specs.Position.{pushed, popped, fits_in, fit_test}
 use Rattle.position.proofs.Fitting.{fits_same}
-use Rattle.session.specs.Plays.{fit_test, play_test, take_back_test, play_in, take_back_in}
+use Rattle.session.specs.Plays.{play_test, take_back_test, play_in, take_back_in}
 
 -- A value in a mask of 16 bits is below 16.
 pub value_small : (m a : ℕ) → m < 65536 → T (bit m a) → a < 16

@@ -18,10 +18,10 @@ use Rattle.game.specs.Support.{clashes}
 use Rattle.game.specs.Open.{goes_with_plays, plays_clash, existential_empty, universal_clash, stuck, is_open, open_values, open_counts}
 use Rattle.theory.proofs.Small.{mk_problem}
 use Rattle.theory.proofs.Samples.{differ, G1, G2, G6}
-use Rattle.position.specs.Position.{shown, plays_of, pushed, popped, place_fits, fits_at, fits_in}
+use Rattle.position.specs.Position.{shown, plays_of, pushed, popped, place_fits, fits_at, fits_in, fit_test}
 use Rattle.position.specs.declared.Position.{Position}
 use Rattle.session.specs.declared.Opened.{Opened}
-use Rattle.session.specs.Plays.{fit_test, play_test, take_back_test, play_in, take_back_in}
+use Rattle.session.specs.Plays.{play_test, take_back_test, play_in, take_back_in}
 use Rattle.session.specs.Opening.{opened_after, open_in}
 use Rattle.session.specs.Told.{left}
 

@@ -11,9 +11,8 @@ use Rattle.solver_arrays.specs.declared.arrays.Arrays.{Arrays}
 use Rattle.solver_arrays.specs.Arrays.{States}
 use Rattle.solver_arrays.specs.Going.{value_at, going_with}
 use Rattle.position.specs.declared.Position.{Position}
-use Rattle.position.specs.Position.{plays_of}
+use Rattle.position.specs.Position.{plays_of, fit_test}
 use Rattle.session.specs.declared.Opened.{Opened}
-use Rattle.session.specs.Plays.{fit_test}
 
 -- Open values and their counts in the problem P after the plays l, each list in 32 places.
 unfoldable pub opened_after : Problem → List ℕ → Opened

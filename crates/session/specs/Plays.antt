@@ -2,24 +2,20 @@
 use Rattle.std.specs.Prelude.{ℕ, Result, List, ltb, get_or}
 use Rattle.mask.specs.Mask.{bit}
 use Rattle.refusal.specs.declared.reason.Reason.{Reason}
-use Rattle.refusal.specs.declared.reason.Reason.TheVariants.{Value, Full, Bare, Misfit}
+use Rattle.refusal.specs.declared.reason.Reason.TheVariants.{Value, Full, Bare}
 use Rattle.refusal.specs.Chain.{Test, ◌then◌, need}
 use Rattle.refusal.specs.Replied.{passed}
 use Rattle.position.specs.declared.Position.{Position}
-use Rattle.position.specs.Position.{pushed, popped, fits_in}
+use Rattle.position.specs.Position.{pushed, popped, fit_test}
 
 module _ (n : ℕ) (masks : List ℕ) (p : Position) where
-  -- "23 Misfit", before "20 to 22, then 11, 10".
-  unfoldable pub fit_test : Test
-  fit_test = need (fits_in p n masks) Misfit
-
-  -- "20 Full: a play when all choices are played"; "10 Option: an option not in the mask concerned", here the file's.
+  -- "23 Misfit", before "20 to 22, then 11, 10"; "20 Full: a play when all choices are played"; "10 Option: an option not in the mask concerned", here the file's.
   unfoldable pub play_test : ℕ → Test
-  play_test a = fit_test then need (ltb p.plays n) Full then need (bit (get_or masks p.plays 0) a) Value
+  play_test a = fit_test n masks p then need (ltb p.plays n) Full then need (bit (get_or masks p.plays 0) a) Value
 
   -- "21 Bare: a take-back when none is played."
   unfoldable pub take_back_test : Test
-  take_back_test = fit_test then need (ltb 0 p.plays) Bare
+  take_back_test = fit_test n masks p then need (ltb 0 p.plays) Bare
 
   -- A play of a, which may be any number, and a take-back.
   unfoldable pub play_in : ℕ → Result Position Reason

@@ -30,8 +30,7 @@ pub fn play(f: &[u8], p: Position, value: usize) -> Result<Position, Refusal>
     ensures position_value { left p result ≡ play_left f.now p value }
 {
     let r = read(f)?;
-    let q = play_in(r.head.n as usize, &r.domains, p, value)?;
-    Ok(q)
+    Ok(play_in(r.head.n as usize, &r.domains, p, value)?)
 }
 
 // Takes the last play back; replies the position that it leads to.
@@ -40,8 +39,7 @@ pub fn take_back(f: &[u8], p: Position) -> Result<Position, Refusal>
     ensures position_value { left p result ≡ take_back_left f.now p }
 {
     let r = read(f)?;
-    let q = take_back_in(r.head.n as usize, &r.domains, p)?;
-    Ok(q)
+    Ok(take_back_in(r.head.n as usize, &r.domains, p)?)
 }
 
 // The position that a play or a take-back leaves: a refused call leaves the one that it was given.

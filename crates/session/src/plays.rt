@@ -1,16 +1,9 @@
 // A play and a take-back over n variables and their domains.
 ghost use Rattle.std.specs.Prelude.{◌≡◌, ◌≤◌};
-ghost use Rattle.session.specs.Plays.{fit_test, play_in, take_back_in};
+ghost use Rattle.session.specs.Plays.{play_in, take_back_in};
 
-use position::{Position, fits, holds, popped, pushed};
+use position::{Position, fit_test, holds, popped, pushed};
 use refusal::{Reason, needed};
-
-// Not a misfit.
-pub fn fit_test(n: usize, domains: &[u16; 32], p: Position) -> Result<(), Reason>
-    ensures { result ≡ fit_test n domains.now p }
-{
-    needed(fits(p, n, domains), Reason::Misfit)
-}
 
 pub fn play_in(n: usize, domains: &[u16; 32], p: Position, value: usize) -> Result<Position, Reason>
     requires { n ≤ 32 }

@@ -1,5 +1,5 @@
 // The arrays of a problem: its variables, which of them are neighbours, and the rows of each two.
-ghost use Rattle.std.specs.Prelude.{◌≤◌};
+ghost use Rattle.std.specs.Prelude.{◌≤◌, ◌<◌};
 ghost use Rattle.solver_arrays.specs.Blocks.{InRange};
 
 use crate::value_at;
@@ -21,11 +21,12 @@ pub struct Arrays {
     pub rows: [u16; ROWS],
     pub ghost first: { own ≤ n },
     pub ghost most: { n ≤ 32 },
+    pub ghost some: { 0 < n },
     pub ghost in_range: { InRange index },
 }
 
 impl Arrays {
-    ghost use Rattle.std.specs.Prelude.{◌≡◌, ◌<◌, get_or};
+    ghost use Rattle.std.specs.Prelude.{◌≡◌, get_or};
     ghost use Rattle.mask.specs.Mask.{above};
     ghost use Rattle.solver_arrays.specs.Arrays.{row_in, common_in};
     ghost use Rattle.solver_arrays.specs.Going.{going_with};
@@ -47,6 +48,7 @@ impl Arrays {
     }
 
     // Row a of variable i towards j.
+    #[tactic(auto, unfolding(crate::specs::Arrays::row_in))]
     pub fn row(&self, i: usize, a: usize, j: usize) -> u16
         requires { (i < 32) × (a < 16) × (j < 32) }
         ensures { result ≡ row_in self.now i a j }
@@ -68,6 +70,7 @@ impl Arrays {
     }
 
     // The values in m of variable j that go with each of the first k values played.
+    #[tactic(auto, unfolding(crate::specs::Going::going_with))]
     pub fn going_with(&self, values: &[u8; 32], k: usize, m: u16, j: usize) -> u16
         requires { (k ≤ 32) × (j < 32) }
         ensures { result ≡ going_with self.now values.now k m j }

@@ -14,6 +14,7 @@ pub struct Loss {
 }
 
 // The reason of variable i.
+#[tactic(auto, unfolding(crate::specs::Words::reason_in))]
 pub fn reason(w: &[u16], i: usize) -> u32
     requires { (96 ≤ length w.now) × (i < 32) }
     ensures { result ≡ reason_in w.now i }
@@ -40,6 +41,7 @@ pub fn add_reason(w: &mut [u16], i: usize, r: u32)
 }
 
 // The value at place i. One that was played is below 16, so the cut changes nothing.
+#[tactic(auto, unfolding(crate::specs::Going::value_at))]
 pub fn value_at(values: &[u8; 32], i: usize) -> usize
     requires { i < 32 }
     ensures { (result ≡ value_at values.now i) × (result < 16) }

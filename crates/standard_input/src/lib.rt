@@ -6,6 +6,10 @@ ghost use Rattle.std.specs.Prelude.{◌≡◌, ◌≤◌, length, IfOk};
 use std::io;
 use std::io::Read;
 
+// How many bytes are read for a problem file: the longest one has 17,994 (`longest`, file_reader/proofs/Longest.antt), and one byte more
+// tells that the input is longer.
+pub const INPUT: usize = 17995;
+
 // An array of N zeros, of which callers know the length alone: a proof that sees a long array's elements computes them one by one.
 pub fn zeros<const N: usize>() -> [u8; N]
     ensures { N ≡ length result }

@@ -1,85 +1,56 @@
 // The boundary rows of document 01 ("By program only"): small files made here, and what reading tells of each.
-ghost use Rattle.std.specs.Prelude.{◌≤◌};
-
 use crate::reading::agrees;
-use trial_vectors::{Tally, part};
+use buffer::Text;
+use trial_vectors::{Refused, Tally, front};
 
-fn put(buf: &mut [u8; 256], p: usize, x: u8) {
-    if p < 256 {
-        buf[p] = x;
-    }
-}
-
-fn put_mark(buf: &mut [u8; 256], p: usize, mark: &[u8; 2])
-    requires { p ≤ 1000000 }
-{
-    put(buf, p, mark[0]);
-    put(buf, p + 1, mark[1]);
-}
-
-// The record RS, if there is one. Tells the place behind it.
-fn put_rules(buf: &mut [u8; 256], rules: Option<u8>) -> usize
-    ensures { result ≤ 8 }
-{
-    match rules {
-        None => 5,
-        Some(k) => {
-            put_mark(buf, 5, b"RS");
-            put(buf, 7, k);
-            8
-        }
+// The record RS, if there is one.
+fn put_rules(t: &mut Text, rules: Option<u8>) {
+    if let Some(k) = rules {
+        t.put(&[b'R', b'S', k]);
     }
 }
 
 // n existential variables with one value.
-fn put_variables(buf: &mut [u8; 256], p: usize, n: u8)
-    requires { p ≤ 8 }
-{
-    for i in 0..n as usize {
-        put_mark(buf, p + 4 * i, b"VE");
-        put(buf, p + 4 * i + 2, 1);
+fn put_variables(t: &mut Text, n: u8) {
+    for _ in 0..n {
+        t.put(b"VE\x01\x00");
     }
 }
 
-// One constraint of the pair (0, 1) with empty rows, where m is not 0. Tells the place behind it.
-fn put_constraint(buf: &mut [u8; 256], p: usize, m: u8) -> usize
-    requires { p ≤ 2000 }
-    ensures { result ≤ 2036 }
-{
-    if m == 0 {
-        return p;
+// One constraint of the pair (0, 1) with empty rows, where m is not 0.
+fn put_constraint(t: &mut Text, m: u8) {
+    if m != 0 {
+        t.put(b"CT\x00\x01");
+        t.put(&[0; 32]);
     }
-    put_mark(buf, p, b"CT");
-    put(buf, p + 3, 1);
-    p + 36
 }
 
-// Whether reading the first k bytes tells this number and place.
-fn begins(buf: &[u8; 256], k: usize, number: usize, place: usize) -> bool {
-    agrees(part(buf, 0, k), number, place)
+// A file of n variables, m constraints and this rule set. Tells its length.
+fn put_file(buf: &mut [u8; 256], n: u8, m: u8, rules: Option<u8>) -> usize {
+    let mut t = Text::new(buf);
+    t.put(&[b'Q', b'P', n, m, 0]);
+    put_rules(&mut t, rules);
+    put_variables(&mut t, n);
+    put_constraint(&mut t, m);
+    t.put(b"EN");
+    t.at
 }
 
-// Whether reading a file of n variables, m constraints and this rule set tells this number and place.
-fn row(n: u8, m: u8, rules: Option<u8>, number: usize, place: usize) -> bool {
+// Whether reading this file tells this.
+fn row(n: u8, m: u8, rules: Option<u8>, told: Result<(), Refused>) -> bool {
     let mut buf = [0u8; 256];
-    put_mark(&mut buf, 0, b"QP");
-    put(&mut buf, 2, n);
-    put(&mut buf, 3, m);
-    let b = put_rules(&mut buf, rules);
-    put_variables(&mut buf, b, n);
-    let e = put_constraint(&mut buf, b + 4 * (n as usize), m);
-    put_mark(&mut buf, e, b"EN");
-    begins(&buf, e + 2, number, place)
+    let length = put_file(&mut buf, n, m, rules);
+    agrees(front(&buf, length), told)
 }
 
 pub fn all_rows() -> Tally {
     Tally::default()
-        .counted(agrees(&[], 1, 0))
-        .counted(row(32, 0, None, 0, 0))
-        .counted(row(33, 0, None, 3, 0))
-        .counted(row(0, 0, None, 3, 0))
-        .counted(row(2, 1, None, 0, 0))
-        .counted(row(2, 2, None, 3, 0))
-        .counted(row(2, 1, Some(127), 0, 0))
-        .counted(row(2, 1, Some(128), 8, 5))
+        .counted(agrees(&[], Err(Refused::file(1, 0))))
+        .counted(row(32, 0, None, Ok(())))
+        .counted(row(33, 0, None, Err(Refused::file(3, 0))))
+        .counted(row(0, 0, None, Err(Refused::file(3, 0))))
+        .counted(row(2, 1, None, Ok(())))
+        .counted(row(2, 2, None, Err(Refused::file(3, 0))))
+        .counted(row(2, 1, Some(127), Ok(())))
+        .counted(row(2, 1, Some(128), Err(Refused::file(8, 5))))
 }

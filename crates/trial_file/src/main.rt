@@ -1,6 +1,6 @@
 // Runs reader, look-up and writer over stored files, and the reader over document 01's boundary rows. stdin is the first quarter of
 // cases/reading.bin: the number of cases, then for each a file, the number of its refusal, 0 for an accepted file, and the place. It rests
-// on `file_reader`, `file_lookup`, `file_writer` and `trial_vectors`.
+// on `file_reader`, `file_lookup`, `file_writer`, `buffer` and `trial_vectors`.
 #![tactic(auto)]
 
 mod back;
@@ -9,52 +9,56 @@ mod pairs;
 mod reading;
 
 use std::io;
-use trial_vectors::{Tally, before_cases, byte, case_count, input, part, place, report, word};
+use trial_vectors::{Refused, Stored, Tally, all_cases, input, report};
 
-// What is tried: to compare what reading tells; of an accepted file, to look up every pair, or to write it back.
+// A stored file, and what reading it tells.
 #[derive(Clone, Copy)]
-enum Trial {
-    Reading,
-    Pairs,
-    Back,
+struct Case<'a> {
+    file: &'a [u8],
+    told: Result<(), Refused>,
 }
 
-// One file in one trial.
-fn tried(f: &[u8], trial: Trial, number: usize, w: usize, t: Tally) -> Tally {
-    match trial {
-        Trial::Reading => t.counted(reading::agrees(f, number, w)),
-        Trial::Pairs if number == 0 => pairs::all_pairs(f, t),
-        Trial::Back if number == 0 => t.counted(back::comes_back(f)),
-        _ => t,
+fn next_case<'a>(s: &mut Stored<'a>) -> Case<'a> {
+    let file = s.file();
+    let number = s.byte();
+    let place = s.word();
+    let told = if number == 0 && place == 0 {
+        Ok(())
+    } else {
+        Err(Refused::file(number, place))
+    };
+    Case { file, told }
+}
+
+fn read(s: &mut Stored, t: Tally) -> Tally {
+    let c = next_case(s);
+    t.counted(reading::agrees(c.file, c.told))
+}
+
+// Every pair of an accepted file.
+fn looked_up(s: &mut Stored, t: Tally) -> Tally {
+    let c = next_case(s);
+    if c.told.is_ok() {
+        pairs::all_pairs(c.file, t)
+    } else {
+        t
     }
 }
 
-fn one_case(s: &[u8], trial: Trial, t: Tally) -> Tally {
-    let at = place(t.at);
-    let length = word(s, at);
-    let p = at + 2 + length;
-    let u = tried(
-        part(s, at + 2, length),
-        trial,
-        byte(s, p),
-        word(s, p + 1),
-        t,
-    );
-    u.moved(p + 3)
-}
-
-fn all_cases(s: &[u8], trial: Trial) -> Tally {
-    let mut t = before_cases();
-    for _ in 0..case_count(s) {
-        t = one_case(s, trial, t);
+// An accepted file.
+fn written(s: &mut Stored, t: Tally) -> Tally {
+    let c = next_case(s);
+    if c.told.is_ok() {
+        t.counted(back::comes_back(c.file))
+    } else {
+        t
     }
-    t
 }
 
 fn main(rt: HostRuntime) -> io::Result<()> {
     let s = input(&rt);
-    report(&rt, b"reading cases ", all_cases(&s, Trial::Reading))?;
-    report(&rt, b"pairs looked up ", all_cases(&s, Trial::Pairs))?;
-    report(&rt, b"files written back ", all_cases(&s, Trial::Back))?;
+    report(&rt, b"reading cases ", all_cases(&s, read))?;
+    report(&rt, b"pairs looked up ", all_cases(&s, looked_up))?;
+    report(&rt, b"files written back ", all_cases(&s, written))?;
     report(&rt, b"boundary rows ", boundary::all_rows())
 }

@@ -12,31 +12,24 @@ fn stands(f: &[u8], p: usize, i: usize, j: usize) -> bool
     part(f, p, 2) == b"CT".as_slice() && byte(f, p + 2) == i && byte(f, p + 3) == j
 }
 
-fn agrees(f: &[u8], i: usize, j: usize, p: usize, joined: bool) -> bool
-    requires { p ≤ 1000000 }
-{
+// Whether the look-up finds the rows at this place, or none.
+fn agrees(f: &[u8], i: usize, j: usize, rows_at: Option<usize>) -> bool {
     let found = look_up(f, i, j);
-    match found {
-        Ok(Some(w)) => joined && w == p + 4 && rows(f, found) == part(f, p + 4, 32),
-        Ok(None) => !joined,
-        Err(_) => false,
-    }
+    found == Ok(rows_at) && rows_at.is_none_or(|w| rows(f, found) == part(f, w, 32))
 }
 
-// The pair with the number k, where t is at the next record.
-fn one_pair(f: &[u8], k: usize, t: Tally) -> Tally {
-    let i = k / 32;
-    let j = k % 32;
-    if !(i < j && j < byte(f, 2)) {
-        return t;
+pub fn all_pairs(f: &[u8], mut t: Tally) -> Tally {
+    let n = byte(f, 2);
+    let mut next = first_variable(f) + 4 * n;
+    for i in 0..n {
+        for j in i + 1..n {
+            let p = place(next);
+            let rows_at = stands(f, p, i, j).then_some(p + 4);
+            t = t.counted(agrees(f, i, j, rows_at));
+            if rows_at.is_some() {
+                next = p + 36;
+            }
+        }
     }
-    let p = place(t.at);
-    let joined = stands(f, p, i, j);
-    let u = t.counted(agrees(f, i, j, p, joined));
-    if joined { u.moved(p + 36) } else { u }
-}
-
-pub fn all_pairs(f: &[u8], t: Tally) -> Tally {
-    let first = t.moved(first_variable(f) + 4 * byte(f, 2));
-    (0..1024).fold(first, |u, k| one_pair(f, k, u))
+    t
 }

@@ -1,9 +1,7 @@
 // What reading tells of a file: accepted, or refused with a number and a place.
 use file_reader::read;
+use trial_vectors::Refused;
 
-pub fn agrees(f: &[u8], number: usize, place: usize) -> bool {
-    match read(f) {
-        Ok(_) => number == 0 && place == 0,
-        Err(fault) => number == u8::from(fault.reason) as usize && place == fault.place,
-    }
+pub fn agrees(f: &[u8], told: Result<(), Refused>) -> bool {
+    read(f).map(|_| ()).map_err(Refused::from) == told
 }

@@ -1,22 +1,29 @@
-// One of the five calls on the first n masks of a list, by the number of its rule.
-ghost use Rattle.std.specs.Prelude.{◌≤◌};
-
-use crate::answers::{checked, looked, ruled, values};
+// The five calls on the first masks of a list.
+use refusal::Refusal;
 use rule_entries::{arc, forward_check, interchangeable, look_ahead, pure};
 use trial_vectors::Answer;
 
-fn called_on(rule: usize, f: &[u8], list: &mut [u16], x: usize, a: usize) -> Answer {
+#[derive(Clone, Copy, PartialEq, Eq)]
+pub enum Rule {
+    Arc,
+    ForwardCheck,
+    LookAhead,
+    Pure,
+    Interchangeable,
+}
+
+// A loss or none, or a mask, as a number. What a loss names is not in rules.bin.
+fn told(rule: Rule, f: &[u8], list: &mut [u16], x: usize, a: usize) -> Result<usize, Refusal> {
     match rule {
-        1 => ruled(arc(f, list)),
-        2 => checked(forward_check(f, list, x, a)),
-        3 => looked(look_ahead(f, list, x)),
-        4 => values(pure(f, list, x)),
-        _ => values(interchangeable(f, list, x)),
+        Rule::Arc => Ok(arc(f, list)? as usize),
+        Rule::ForwardCheck => Ok(forward_check(f, list, x, a)?.is_some() as usize),
+        Rule::LookAhead => Ok(look_ahead(f, list, x)?.is_some() as usize),
+        Rule::Pure => Ok(pure(f, list, x)? as usize),
+        Rule::Interchangeable => Ok(interchangeable(f, list, x)? as usize),
     }
 }
 
-pub fn called(rule: usize, f: &[u8], list: &mut [u16; 32], n: usize, x: usize, a: usize) -> Answer
-    requires { n ≤ 32 }
-{
-    called_on(rule, f, &mut list[..n], x, a)
+// The call of this rule on the first n masks.
+pub fn called(rule: Rule, f: &[u8], list: &mut [u16; 32], n: usize, x: usize, a: usize) -> Answer {
+    Ok((told(rule, f, &mut list[..n.min(32)], x, a)?, 0))
 }

@@ -1,35 +1,10 @@
 // Judging and marking in a room that is dirty and longer than what is lent.
 ghost use Rattle.std.specs.Prelude.{◌≤◌};
 
-use crate::Kind;
 use judging::judge;
-use marking::{Marks, mark};
+use marking::mark;
 use position::Position;
-use refusal::Refusal;
 use trial_vectors::{Answer, byte};
-
-fn judged(r: Result<bool, Refusal>) -> Answer {
-    match r {
-        Ok(won) => Answer::Replied(won as usize, 0),
-        Err(refusal) => Answer::from(refusal),
-    }
-}
-
-// The winning values, and the domain.
-fn marked(r: Result<Marks, Refusal>) -> Answer {
-    match r {
-        Ok(m) => Answer::Replied(m.winning as usize, m.domain as usize),
-        Err(refusal) => Answer::from(refusal),
-    }
-}
-
-// A call of this kind; any but Judge marks.
-fn asked(kind: Kind, f: &[u8], p: Position, set: usize, room: &mut [u16]) -> Answer {
-    match kind {
-        Kind::Judge => judged(judge(f, p, set, room)),
-        _ => marked(mark(f, p, set, room)),
-    }
-}
 
 // How many words n variables need.
 pub fn needed(n: usize) -> usize
@@ -44,14 +19,33 @@ fn left(room: &[u16; 1280], used: usize) -> bool {
     (0..1280).all(|k| room[k] == if k < used { 0 } else { 7 })
 }
 
-// Lent k words of a dirty room, a call of this kind, Judge or Mark, answers a. Then the words that it needs are zero, or none where it
-// refuses, and all others are as before.
-pub fn answers(kind: Kind, f: &[u8], p: Position, set: usize, k: usize, a: Answer) -> bool {
-    let used = match a {
-        Answer::Replied(_, _) => needed(byte(f, 2)),
-        _ => 0,
-    };
+// Lent k words of a dirty room, the call over this file answers a. Then the words that it needs are zero, or none where it refuses, and
+// all others are as before.
+fn answers<F: FnOnce(&mut [u16]) -> Answer>(call: F, f: &[u8], k: usize, a: Answer) -> bool
+    requires { F.IsAlwaysCallable call }
+{
+    let used = if a.is_ok() { needed(byte(f, 2)) } else { 0 };
     let mut room = [7u16; 1280];
-    let r = asked(kind, f, p, set, &mut room[..k.min(1280)]);
-    r == a && left(&room, used)
+    let answer = call(&mut room[..k.min(1280)]);
+    answer == a && left(&room, used)
+}
+
+fn judged(f: &[u8], p: Position, set: usize, room: &mut [u16]) -> Answer {
+    Ok((judge(f, p, set, room)? as usize, 0))
+}
+
+// The winning values, and the domain.
+fn marked(f: &[u8], p: Position, set: usize, room: &mut [u16]) -> Answer {
+    let m = mark(f, p, set, room)?;
+    Ok((m.winning as usize, m.domain as usize))
+}
+
+// Judging in k words answers a.
+pub fn judges(f: &[u8], p: Position, set: usize, k: usize, a: Answer) -> bool {
+    answers(|room| judged(f, p, set, room), f, k, a)
+}
+
+// Marking in k words answers a.
+pub fn marks(f: &[u8], p: Position, set: usize, k: usize, a: Answer) -> bool {
+    answers(|room| marked(f, p, set, room), f, k, a)
 }

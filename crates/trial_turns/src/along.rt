@@ -14,9 +14,7 @@ use solver_arrays::{Arrays, Words, put_reason};
 // The words of a turn with these domains and no reasons.
 fn words_of(domains: &[u16; 32]) -> Words {
     let mut w = [0u16; 128];
-    for k in 0..32 {
-        w[k] = domains[k];
-    }
+    w[..32].copy_from_slice(domains);
     w
 }
 
@@ -25,12 +23,7 @@ fn all_some(n: usize, w: &Words) -> bool
     requires { n ≤ 32 }
     ensures { result ≡ true → Nonzero n w.now }
 {
-    for k in 0..n {
-        if w[k] == 0 {
-            return false;
-        }
-    }
-    true
+    (0..n).all(|k| w[k] != 0)
 }
 
 // The conflict set of the loss that the rules find in the turn after d plays; none where d is no number of plays or a domain is empty.
@@ -38,16 +31,12 @@ fn all_some(n: usize, w: &Words) -> bool
 fn ruled(arrays: &Arrays, set: RuleSet, d: usize, w: &mut Words) -> Option<u32>
     requires { Stated arrays.now.n arrays.now }
 {
-    if arrays.n < d {
+    if arrays.n < d || !all_some(arrays.n, w) {
         return None;
     }
-    if !all_some(arrays.n, w) {
-        return None;
-    }
-    match run_rules(arrays, set, 0, d, w) {
-        Ok(()) => None,
-        Err(loss) => Some(loss.conflict),
-    }
+    run_rules(arrays, set, 0, d, w)
+        .err()
+        .map(|loss| loss.conflict)
 }
 
 // Value a of variable d is played, and d is its own reason.
@@ -71,18 +60,9 @@ fn ruled_in(arrays: &Arrays, set: RuleSet, p: Position) -> Option<u32>
     ruled(arrays, set, plays, &mut w)
 }
 
-// The same in the turn after the plays of p, in a search from the start under this set; none where the file is refused.
-fn ruled_under(f: &[u8], p: Position, set: RuleSet) -> Option<u32> {
-    match decode(f) {
-        Ok(arrays) => ruled_in(&arrays, set, p),
-        Err(_) => None,
-    }
-}
-
-// The same under the set of this number.
+// The same in the turn after the plays of p, in a search from the start under the set of this number; none where one of them is refused.
 pub fn ruled_along(f: &[u8], p: Position, set: usize) -> Option<u32> {
-    match RuleSet::new(set) {
-        Ok(s) => ruled_under(f, p, s),
-        Err(_) => None,
-    }
+    let set = RuleSet::new(set).ok()?;
+    let arrays = decode(f).ok()?;
+    ruled_in(&arrays, set, p)
 }

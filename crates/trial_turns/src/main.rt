@@ -1,5 +1,6 @@
 // Conflict sets, which no entry shows of turns below the first: at a sample problem along given plays, and at stored turns. stdin is the
-// number of these, then the turns (cases/README.md). It rests on `search_rules`, `judging`, `trial_stored` and `trial_vectors`.
+// number of these, then the turns (cases/README.md). It rests on `search_rules`, `judging`, `buffer`,
+// `trial_stored` and `trial_vectors`.
 #![tactic(auto)]
 
 mod along;

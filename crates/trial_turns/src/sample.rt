@@ -2,70 +2,42 @@
 // Variable 2 is universal; the domains are {0, 1}, of variable 3 {0, 1, 2}; all pairs of values are compatible but
 // (variable.value) 0.1-3.2, 1.0-2.0, 1.1-3.0, 2.1-3.2, 2.1-4.1, 3.1-4.0. The plays 0, 1, 1 lose and 0, 0, 1 win, so the conflict set
 // of the loss must hold variable 1.
-ghost use Rattle.std.specs.Prelude.{◌<◌};
-
 use crate::along::ruled_along;
 use crate::searches::searched;
+use buffer::Text;
+use mask::contains;
 use position::Position;
-use trial_vectors::{Tally, part};
+use trial_vectors::{Tally, front};
 
-// A byte of the file; none is behind its end.
-fn put(f: &mut [u8; 243], p: usize, b: u8) {
-    if p < 243 {
-        f[p] = b;
+// A constraint of i and j, with the rows of the values 0, 1 and 2 of i.
+fn put_constraint(t: &mut Text, row: [u8; 5]) {
+    let [i, j, u, v, w] = row;
+    t.put(&[b'C', b'T', i, j, u, 0, v, 0, w, 0]);
+    t.put(&[0; 26]);
+}
+
+fn put_constraints(t: &mut Text) {
+    let rows = [
+        [0, 3, 7, 3, 0],
+        [1, 2, 2, 3, 0],
+        [1, 3, 7, 6, 0],
+        [2, 3, 7, 3, 0],
+        [2, 4, 3, 1, 0],
+        [3, 4, 3, 2, 3],
+    ];
+    for row in rows {
+        put_constraint(t, row);
     }
 }
 
-fn put_variable(f: &mut [u8; 243], i: usize, side: u8, domain: u8)
-    requires { i < 5 }
-{
-    put(f, 5 + 4 * i, 86);
-    put(f, 6 + 4 * i, side);
-    put(f, 7 + 4 * i, domain);
-}
-
-// Constraint t, with the rows of the values 0, 1 and 2 of i.
-fn put_constraint(f: &mut [u8; 243], t: usize, i: u8, j: u8, u: u8, v: u8, w: u8)
-    requires { t < 6 }
-{
-    let p = 25 + 36 * t;
-    put(f, p, 67);
-    put(f, p + 1, 84);
-    put(f, p + 2, i);
-    put(f, p + 3, j);
-    put(f, p + 4, u);
-    put(f, p + 6, v);
-    put(f, p + 8, w);
-}
-
-fn put_variables(f: &mut [u8; 243]) {
-    put_variable(f, 0, 69, 3);
-    put_variable(f, 1, 69, 3);
-    put_variable(f, 2, 65, 3);
-    put_variable(f, 3, 69, 7);
-    put_variable(f, 4, 69, 3);
-}
-
-fn put_constraints(f: &mut [u8; 243]) {
-    put_constraint(f, 0, 0, 3, 7, 3, 0);
-    put_constraint(f, 1, 1, 2, 2, 3, 0);
-    put_constraint(f, 2, 1, 3, 7, 6, 0);
-    put_constraint(f, 3, 2, 3, 7, 3, 0);
-    put_constraint(f, 4, 2, 4, 3, 1, 0);
-    put_constraint(f, 5, 3, 4, 3, 2, 3);
-}
-
-fn five() -> [u8; 243] {
-    let mut f = [0u8; 243];
-    put(&mut f, 0, 81);
-    put(&mut f, 1, 80);
-    put(&mut f, 2, 5);
-    put(&mut f, 3, 6);
-    put_variables(&mut f);
-    put_constraints(&mut f);
-    put(&mut f, 241, 69);
-    put(&mut f, 242, 78);
-    f
+// Tells the file's length.
+fn put_five(buf: &mut [u8; 256]) -> usize {
+    let mut t = Text::new(buf);
+    t.put(b"QP\x05\x06\x00");
+    t.put(b"VE\x03\x00VE\x03\x00VA\x03\x00VE\x07\x00VE\x03\x00");
+    put_constraints(&mut t);
+    t.put(b"EN");
+    t.at
 }
 
 // The position after the plays 0, a, 1.
@@ -73,14 +45,11 @@ fn after(a: u8) -> Position {
     let mut values = [0u8; 32];
     values[1] = a;
     values[2] = 1;
-    Position {
-        plays: 3,
-        values: values,
-    }
+    Position { plays: 3, values }
 }
 
 fn holds_one(conflict: u32) -> bool {
-    conflict / 2 % 2 == 1
+    contains(conflict, 1)
 }
 
 // Under this set 0, 1, 1 is lost with variable 1 in its conflict set, in a search from there and in one from the start, and 0, 0, 1
@@ -93,12 +62,16 @@ fn blames_one(f: &[u8], set: usize) -> bool {
         return false;
     };
     let along = ruled_along(f, after(1), set);
-    !first.won && second.won && holds_one(first.conflict) && along.is_some_and(holds_one)
+    !first.outcome.is_won()
+        && second.outcome.is_won()
+        && holds_one(first.outcome.conflict())
+        && along.is_some_and(holds_one)
 }
 
 pub fn all_sets() -> Tally {
-    let g = five();
-    let f = part(&g, 0, 243);
+    let mut buf = [0u8; 256];
+    let length = put_five(&mut buf);
+    let f = front(&buf, length);
     Tally::default()
         .counted(blames_one(f, 33))
         .counted(blames_one(f, 35))

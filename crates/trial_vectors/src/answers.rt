@@ -1,21 +1,45 @@
 // What a call answers, as numbers.
-use refusal::Refusal;
+use refusal::{Fault, Refusal};
 
-// A reply of at most two numbers, a refusal by number alone, or a file's refusal with its number and place.
+// A reply of at most two numbers, or a refusal. The numbers are document 01's, as stored: comparing them tries those of `Reason` too.
+pub type Answer = Result<(usize, usize), Refused>;
+
+// A refusal's number, and its place where the file is refused.
 #[derive(Clone, Copy, PartialEq, Eq)]
-pub enum Answer {
-    Replied(usize, usize),
-    Refused(usize),
-    RefusedAt(usize, usize),
+pub struct Refused {
+    pub number: usize,
+    pub place: Option<usize>,
 }
 
-impl From<Refusal> for Answer {
-    fn from(refusal: Refusal) -> Answer {
+impl Refused {
+    // A call's, by number alone.
+    pub fn call(number: usize) -> Refused {
+        Refused {
+            number,
+            place: None,
+        }
+    }
+
+    // A file's, with its place.
+    pub fn file(number: usize, place: usize) -> Refused {
+        Refused {
+            number,
+            place: Some(place),
+        }
+    }
+}
+
+impl From<Fault> for Refused {
+    fn from(fault: Fault) -> Refused {
+        Refused::file(u8::from(fault.reason) as usize, fault.place)
+    }
+}
+
+impl From<Refusal> for Refused {
+    fn from(refusal: Refusal) -> Refused {
         match refusal {
-            Refusal::InCall(reason) => Answer::Refused(u8::from(reason) as usize),
-            Refusal::InFile(fault) => {
-                Answer::RefusedAt(u8::from(fault.reason) as usize, fault.place)
-            }
+            Refusal::InFile(fault) => Refused::from(fault),
+            Refusal::InCall(reason) => Refused::call(u8::from(reason) as usize),
         }
     }
 }

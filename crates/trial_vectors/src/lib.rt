@@ -6,16 +6,17 @@
 ghost use Rattle.std.specs.Prelude.{◌≡◌, ◌≤◌, ◌<◌, length};
 
 mod answers;
+mod stored;
 
-pub use answers::Answer;
+pub use answers::{Answer, Refused};
 use standard_input::{read_full, zeros};
 use std::io;
 use std::io::{Input, Write};
+pub use stored::Stored;
 
-// How far a trial has come: where the next case begins, and how many cases were compared and differed.
+// How many cases were compared and differed.
 #[derive(Clone, Copy, Default)]
 pub struct Tally {
-    pub at: usize,
     pub compared: usize,
     pub differing: usize,
 }
@@ -24,16 +25,22 @@ impl Tally {
     // One more case compared.
     pub fn counted(self, agrees: bool) -> Tally {
         Tally {
-            at: self.at,
             compared: self.compared.saturating_add(1),
             differing: self.differing.saturating_add(!agrees as usize),
         }
     }
+}
 
-    // The next case begins at p.
-    pub fn moved(self, p: usize) -> Tally {
-        Tally { at: p, ..self }
+// The tally of all stored cases: their number stands at the front, and `one` reads the next.
+pub fn all_cases<F: Fn(&mut Stored, Tally) -> Tally>(s: &[u8], one: F) -> Tally
+    requires { F.IsAlwaysCallable one }
+{
+    let mut cases = Stored::new(s);
+    let mut t = Tally::default();
+    for _ in 0..cases.word() {
+        t = one(&mut cases, t);
     }
+    t
 }
 
 // Standard input, and zeros behind it. A read that fails is the end of the input.
@@ -62,10 +69,23 @@ pub fn word(s: &[u8], p: usize) -> usize
     }
 }
 
-// The k bytes from p on.
-pub fn part<'a>(s: &'a [u8], p: usize, k: usize) -> &'a [u8] {
+// The k elements from p on.
+pub fn part<'a, T>(s: &'a [T], p: usize, k: usize) -> &'a [T] {
     let rest = s.get(p..).unwrap_or(&[]);
     rest.get(..k).unwrap_or(&[])
+}
+
+// The first k elements of an array.
+pub fn front<'a, T, const N: usize>(buf: &'a [T; N], k: usize) -> &'a [T] {
+    part(buf, 0, k)
+}
+
+// Puts xs from p on, where they have room.
+pub fn put<T: Copy, const N: usize>(buf: &mut [T; N], p: usize, xs: &[T]) {
+    if p <= N && xs.len() <= N - p {
+        let all = &mut buf[..];
+        all[p..p + xs.len()].copy_from_slice(xs);
+    }
 }
 
 // A place, cut to where no sum of a few small numbers wraps.
@@ -84,18 +104,6 @@ pub fn first_variable(f: &[u8]) -> usize
     } else {
         5
     }
-}
-
-// How many cases are stored: the number at the front.
-pub fn case_count(s: &[u8]) -> usize
-    ensures { result < 65536 }
-{
-    word(s, 0)
-}
-
-// The tally before the first of them.
-pub fn before_cases() -> Tally {
-    Tally::default().moved(2)
 }
 
 fn line(rt: &impl Print, label: &[u8], number: usize) -> io::Result<()> {

@@ -2,7 +2,7 @@ use borrow.Author.Rules.{rules}
 use mathlib.Core.Path.{sym, ap, ◌∙◌}
 use native.Mathlib.Omega.{arith}
 use Rattle.file_reader.specs.Reading.{told, domains_shown}
-use Rattle.file_reader.proofs.Accepted.{Shows, header_shows, header_refuses, variables_most}
+use Rattle.file_reader.proofs.Accepted.{Shows, header_shows, header_refuses, variables-some, variables_most}
 use Rattle.file_decoder.specs.Tables.{near_start, index_start, rows_start}
 use Rattle.file_decoder.proofs.Stated.{leaves, ready, enters, start_in_range}
 use Rattle.file_decoder.proofs.decode.Goals as goal
@@ -16,7 +16,12 @@ pub invariant_of-arrays : goal.invariant_of-arrays
 unfolding index_start
 invariant_of-arrays c =
     let s = shows (goal.at.invariant_of-arrays c).In_ok-r in
-    record { first = omega arith; most = omega (arith, s.variables, variables_most c.args.f.now s.fine); in_range = start_in_range }
+    record {
+      first = omega arith;
+      most = omega (arith, s.variables, variables_most c.args.f.now s.fine);
+      some = omega (arith, s.variables, variables-some c.args.f.now s.fine);
+      in_range = start_in_range;
+    }
 
 pub put_constraints-requires : goal.put_constraints-requires
 put_constraints-requires c = let s = shows (goal.at.put_constraints-requires c).In_ok-r in ready _ _ _ s.fine c.constraints_at.ensures s.constraints

@@ -9,7 +9,7 @@ use Rattle.refusal.proofs.Chain.{need_fine, stops, goes}
 use Rattle.file_layout.proofs.NumberLaws.{counts_out, constraints_most}
 use Rattle.file_bytes.specs.Bytes.{length_of, handed}
 use Rattle.file_writer.specs.Tests.{write_test}
-use Rattle.file_writer.proofs.Writable.{writable, told_refused, buffer_refused, told_length, buffer_stored, lists_out}
+use Rattle.file_writer.proofs.Writable.{writable, told_refused, buffer_refused, told_length, buffer_stored}
 use Rattle.file_writer.proofs.write.Goals as goal
 use Rattle.file_writer.proofs.write.Goals.{In_ok-needed, In_ok-rest_test}
 
@@ -41,9 +41,7 @@ pub invariant_of-x : goal.invariant_of-x
 invariant_of-x c = record { counts = counts (goal.at.invariant_of-x c).In_ok-needed }
 
 pub rest_test-requires : goal.rest_test-requires
-rest_test-requires c =
-    let l = lists_out _ _ _ _ (sym c.lists_fit.ensures ∙ need_fine _ _ (sym c.needed-2.ensures ∙ c.in_ok-needed-2.was)) in
-    record { masks = omega arith; rows = omega arith }
+rest_test-requires c = sym c.lists_fit.ensures ∙ need_fine _ _ (sym c.needed-2.ensures ∙ c.in_ok-needed-2.was)
 
 pub returns-in_err-rest_test : goal.returns-in_err-rest_test
 unfolding write_test

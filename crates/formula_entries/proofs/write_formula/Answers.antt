@@ -4,7 +4,7 @@ use Rattle.std.specs.Prelude.{Err}
 use Rattle.refusal.specs.declared.reason.Refusal.TheVariants.{InFile, InCall}
 use Rattle.refusal.specs.Told.{reason_told, told_by}
 use Rattle.formula_entries.specs.Told.{length_values, told}
-use Rattle.formula_entries.proofs.EntryLaws.{refused-told, refused-left, printable, file_writes}
+use Rattle.formula_entries.proofs.EntryLaws.{refused-told, refused-left, file_writes}
 use Rattle.formula_entries.proofs.write_formula.Goals as goal
 
 pub returns-in_err-arrays : goal.returns-in_err-arrays
@@ -12,9 +12,6 @@ returns-in_err-arrays c =
     let q : c.from_residual.result ≡ Err (InFile c.in_err-arrays.field-0.0) = search rules in
     let z = c.decode.ensures.refused _ c.in_err-arrays.was in
     record { result_value = ap told q ∙ refused-told _ _ z _; buf_after = refused-left _ _ z _ }
-
-pub write_in-requires : goal.write_in-requires
-write_in-requires c = printable _ _ (c.decode.ensures.given _ c.in_ok-arrays.was)
 
 pub returns-in_err-write_in : goal.returns-in_err-write_in
 returns-in_err-write_in c =

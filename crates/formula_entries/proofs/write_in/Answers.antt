@@ -5,8 +5,8 @@ use Rattle.formula_entries.proofs.write_in.Goals as goal
 
 pub returns-in_err-needed : goal.returns-in_err-needed
 unfolding text_test
-returns-in_err-needed c = short_writes _ _ _ c.measure-s.ensures _ c.needed.ensures _ c.in_err-needed.was (search rules)
+returns-in_err-needed c = short_writes _ _ _ c.measure-size.ensures _ c.needed.ensures _ c.in_err-needed.was (search rules)
 
 pub returns : goal.returns
 unfolding text_test
-returns c = long_writes _ _ _ c.measure-s.ensures _ c.needed.ensures _ c.in_ok-needed.was c.put_formula.ensures
+returns c = long_writes _ _ _ c.measure-size.ensures _ c.needed.ensures _ c.in_ok-needed.was c.put_formula.ensures

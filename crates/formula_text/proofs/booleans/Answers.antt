@@ -1,8 +1,5 @@
-use Rattle.formula_text.proofs.TextLaws.{booleans_closed, booleans_open}
+use Rattle.formula_text.proofs.TextLaws.{booleans_by}
 use Rattle.formula_text.proofs.booleans.Goals as goal
 
-pub returns-then-closes : goal.returns-then-closes
-returns-then-closes c = booleans_closed _ _ _ c.closes.ensures c.if-closes.true c.all_booleans-all.ensures.0
-
-pub returns-else-closes : goal.returns-else-closes
-returns-else-closes c = booleans_open _ _ _ c.closes.ensures c.if-closes.false c.all_booleans-all.ensures.0
+pub returns : goal.returns
+returns c = booleans_by _ c.closes.ensures c.all_booleans.ensures.0 c.from.ensures

@@ -2,4 +2,4 @@ use Rattle.formula_text.proofs.WholeText.{measured}
 use Rattle.formula_text.proofs.measure.Goals as goal
 
 pub returns : goal.returns
-returns c = measured _ c.requires c.put_body-s.ensures c.booleans.ensures c.put_header-h.ensures
+returns c = measured _ c.new-t.ensures.place c.put_body-clauses.ensures c.booleans.ensures c.put_header.ensures

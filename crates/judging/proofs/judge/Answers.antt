@@ -1,7 +1,8 @@
 use borrow.Author.Rules.{rules}
 use lib.ListN.{length}
+use mathlib.Core.Bool.{Bool}
 use mathlib.Core.Path.{◌≡◌, sym, ap, ◌∙◌}
-use Rattle.std.specs.Prelude.{Result, Err}
+use Rattle.std.specs.Prelude.{Result, Ok, Err}
 use Rattle.refusal.specs.declared.reason.Refusal.{Refusal}
 use Rattle.refusal.specs.Told.{Told}
 use Rattle.search_run.specs.declared.Ran.{Ran}
@@ -34,6 +35,6 @@ unfolding findings_of
 returns c =
     let s = c.search.ensures in
     record {
-      result_value = sym (ap tells c.in_ok-r.was) ∙ ap {B = Told} (λ o. o.told) s.result_value ∙ judged-found _ _ _ _ (long (goal.at.returns c).Start);
+      result_value = ap (λ (b : Bool). told (Ok b)) c.is_won.ensures ∙ sym (ap tells c.in_ok-r.was) ∙ ap {B = Told} (λ o. o.told) s.result_value ∙ judged-found _ _ _ _ (long (goal.at.returns c).Start);
       room_after = s.room_after;
     }

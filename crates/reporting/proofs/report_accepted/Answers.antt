@@ -1,23 +1,21 @@
 use native.Mathlib.Omega.{arith}
 use Prim.Native.Nat.{◌≤◌}
-use lib.ListN.{length}
-use Rattle.report_text.specs.Text.{reply_text}
+use Rattle.rule_set.specs.RuleSet.{greatest_set}
+use Rattle.report_text.specs.Text.{text_of}
 use Rattle.report_text.proofs.TextLaws.{reply_long}
 use Rattle.reporting.proofs.ReportLaws.{holds_as, reply_same}
 use Rattle.reporting.proofs.report_accepted.Goals as goal
-use Rattle.reporting.proofs.report_accepted.Goals.{After-first_marks-k}
 
 -- The text fits.
-text-long : (c : After-first_marks-k) → length (reply_text c.args.n c.args.m c.args.set c.is_won-won.result 0 c.args.universal c.first_marks-k.result.domain c.first_marks-k.result.winning) ≤ 658
-text-long c = reply_long _ _ _ _ _ _ _ _ (omega arith) (omega arith) (omega arith) (omega arith)
-
 pub render_reply-requires : goal.render_reply-requires
-render_reply-requires c = omega (arith, text-long (goal.at.render_reply-requires c).After-first_marks-k)
+unfolding text_of
+render_reply-requires c =
+    let h = reply_long c.args.head.n c.args.head.m c.rules_used-set.result c.is_won-won.result 0 c.contains-universal.result c.first_marks-k.result.domain c.first_marks-k.result.winning (omega arith) (omega arith) (omega arith) (omega arith) in
+    omega (arith, h)
 
-pub returns : goal.returns
-returns c =
-    let e = c.render_reply.ensures in
-    record {
-      upper_bound = omega (arith, text-long (goal.at.returns c).After-first_marks-k, e.value);
-      reports_accepted = λ fine h. holds_as _ _ (reply_same _ _ _ _ (c.is_won-won.ensures fine h) (c.first_marks-k.ensures fine h).1 (c.first_marks-k.ensures fine h).0) e.value e.out_after;
-    }
+pub returns-clause-reports_accepted : goal.returns-clause-reports_accepted
+unfolding text_of
+returns-clause-reports_accepted c = λ fine h.
+    let k : c.rules_used-set.result ≤ greatest_set = rw c.rules_used-set.ensures h in
+    let m = c.first_marks-k.ensures fine k in
+    holds_as _ _ (reply_same _ _ c.rules_used-set.ensures (c.is_won-won.ensures fine k) c.contains-universal.ensures m.1 m.0) c.render_reply.ensures.value c.render_reply.ensures.out_after

@@ -14,6 +14,7 @@ find-requires-clause-callable c = serves_members 32 (λ s. s.left) _ c.members_o
 pub returns : goal.returns
 returns c =
     let a = c.args in
-    find_first 32 (λ s. s.left) _ _ (emptied_in a.universal a.w.now) c.members_of.result _ c.find.result _ a.n
-    c.members_of.ensures (cut_fits a.n a.touched _ c.requires.0 (omega arith) c.everyone.ensures) c.find.ensures.ran (λ x l t b q k. search rules)
-    ∙ ap (found a.n) (emptied_first a.n a.universal a.touched _ a.w.now c.everyone.ensures c.requires.2)
+    let A = a.arrays.now in
+    find_first 32 (λ s. s.left) _ _ (emptied_in A.universal a.w.now) c.members_of.result _ c.find.result _ A.n
+    c.members_of.ensures (cut_fits A.n a.touched _ A.most (omega arith) c.everyone.ensures) c.find.ensures.ran (λ x l t b q k. search rules)
+    ∙ ap (found A.n) (emptied_first A.n A.universal a.touched _ a.w.now c.everyone.ensures c.requires.1)

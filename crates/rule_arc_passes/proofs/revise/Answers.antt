@@ -1,11 +1,5 @@
-use lib.ListN.{length, length-set}
-use mathlib.Core.Path.{ap, ◌∙◌}
-use Rattle.solver_arrays.proofs.WordLaws.{length-put_reason}
 use Rattle.rule_arc_passes.proofs.StepLaws.{revise_cut, revise_kept}
 use Rattle.rule_arc_passes.proofs.revise.Goals as goal
-
-pub shape_of-w : goal.shape_of-w
-shape_of-w c = ap length c.add_reason.ensures ∙ length-put_reason _ _ _ ∙ simp length-set
 
 pub returns-then-new-old : goal.returns-then-new-old
 returns-then-new-old c = revise_cut _ _ _ _ _ c.left_by-new.ensures _ _ _ c.if-new-old.true c.reason.ensures c.cause-c.ensures c.add_reason.ensures

@@ -4,5 +4,8 @@ use mathlib.Core.Path.{◌≡◌}
 use Rattle.solver_arrays.specs.Arrays.{supported_in}
 use Rattle.rule_arc_passes.proofs.supported_of.Given as goal
 
-abbrev pub invariant-loop-a : goal.invariant-loop-a
-invariant-loop-a l = (l.out < 65536) × (supported_in l.arrays l.k l.fn.m l.x ≡ bit_or l.out (supported_in l.arrays l.k l.a-iterator.left l.x))
+abbrev pub invariant-loop-left : goal.invariant-loop-left
+invariant-loop-left l = (l.out < 65536) × (l.left < 65536) × (supported_in l.arrays l.k l.m l.x ≡ bit_or l.out (supported_in l.arrays l.k l.left l.x))
+
+abbrev pub decreases-loop-left : goal.decreases-loop-left
+decreases-loop-left l = l.left

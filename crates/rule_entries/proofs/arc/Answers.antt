@@ -3,7 +3,8 @@ use mathlib.Core.Path.{◌≡◌, sym, ap, ◌∙◌}
 use Rattle.std.specs.Prelude.{Err}
 use Rattle.refusal.specs.declared.reason.Refusal.TheVariants.{InFile, InCall}
 use Rattle.refusal.specs.Told.{reason_told, told_by}
-use Rattle.file_decoder.proofs.ReadLaws.{read_refused, read_fine}
+use Rattle.file_decoder.proofs.ReadLaws.{read_refused}
+use Rattle.rule_entries.proofs.EntryLaws.{read_given}
 use Rattle.rule_entries.specs.Alone.{loss_values, told, arc_told, arc_left}
 use Rattle.rule_entries.proofs.arc.Goals as goal
 
@@ -18,13 +19,8 @@ pub returns-in_err-arc_in : goal.returns-in_err-arc_in
 unfolding arc_told arc_left
 returns-in_err-arc_in c =
     let q : c.from_residual-in_err-arc_in.result ≡ Err (InCall c.in_err-arc_in.field-0.0) = search rules in
-    let g = c.decode.ensures.given _ c.in_ok-arrays.was in
-    let o = c.arc_in.ensures _ g.poses in
-    record { result_value = ap told q ∙ sym (ap (told_by loss_values reason_told) c.in_err-arc_in.was) ∙ o.0 ∙ sym (read_fine _ _ _ g.fine); list_after = o.1 ∙ sym (read_fine _ _ _ g.fine) }
+    record { result_value = ap told q ∙ sym (ap (told_by loss_values reason_told) c.in_err-arc_in.was) ∙ read_given c.decode.ensures c.in_ok-arrays.was _ _ (λ P h. (c.arc_in.ensures P h).0); list_after = read_given c.decode.ensures c.in_ok-arrays.was _ _ (λ P h. (c.arc_in.ensures P h).1) }
 
 pub returns : goal.returns
 unfolding arc_told arc_left
-returns c =
-    let g = c.decode.ensures.given _ c.in_ok-arrays.was in
-    let o = c.arc_in.ensures _ g.poses in
-    record { result_value = sym (ap (told_by loss_values reason_told) c.in_ok-arc_in.was) ∙ o.0 ∙ sym (read_fine _ _ _ g.fine); list_after = o.1 ∙ sym (read_fine _ _ _ g.fine) }
+returns c = record { result_value = sym (ap (told_by loss_values reason_told) c.in_ok-arc_in.was) ∙ read_given c.decode.ensures c.in_ok-arrays.was _ _ (λ P h. (c.arc_in.ensures P h).0); list_after = read_given c.decode.ensures c.in_ok-arrays.was _ _ (λ P h. (c.arc_in.ensures P h).1) }

@@ -3,7 +3,8 @@ use mathlib.Core.Path.{◌≡◌, sym, ap, ◌∙◌}
 use Rattle.std.specs.Prelude.{Err}
 use Rattle.refusal.specs.declared.reason.Refusal.TheVariants.{InFile, InCall}
 use Rattle.refusal.specs.Told.{reason_told, told_by}
-use Rattle.file_decoder.proofs.ReadLaws.{read_refused, read_fine}
+use Rattle.file_decoder.proofs.ReadLaws.{read_refused}
+use Rattle.rule_entries.proofs.EntryLaws.{read_given}
 use Rattle.rule_entries.specs.Alone.{mask_values, told_values, pure_told}
 use Rattle.rule_entries.proofs.pure.Goals as goal
 
@@ -18,13 +19,8 @@ pub returns-in_err-pure_in : goal.returns-in_err-pure_in
 unfolding pure_told
 returns-in_err-pure_in c =
     let q : c.from_residual-in_err-pure_in.result ≡ Err (InCall c.in_err-pure_in.field-0.0) = search rules in
-    let g = c.decode.ensures.given _ c.in_ok-arrays.was in
-    let o = c.pure_in.ensures _ g.poses in
-    ap told_values q ∙ sym (ap (told_by mask_values reason_told) c.in_err-pure_in.was) ∙ o ∙ sym (read_fine _ _ _ g.fine)
+    ap told_values q ∙ sym (ap (told_by mask_values reason_told) c.in_err-pure_in.was) ∙ read_given c.decode.ensures c.in_ok-arrays.was _ _ c.pure_in.ensures
 
 pub returns : goal.returns
 unfolding pure_told
-returns c =
-    let g = c.decode.ensures.given _ c.in_ok-arrays.was in
-    let o = c.pure_in.ensures _ g.poses in
-    sym (ap (told_by mask_values reason_told) c.in_ok-pure_in.was) ∙ o ∙ sym (read_fine _ _ _ g.fine)
+returns c = sym (ap (told_by mask_values reason_told) c.in_ok-pure_in.was) ∙ read_given c.decode.ensures c.in_ok-arrays.was _ _ c.pure_in.ensures

@@ -1,15 +1,12 @@
 use lib.Dec.{T}
-use lib.ListN.{length, length-set}
+use lib.ListN.{length-set}
 use lib.Seq.{get_or-set_other}
-use mathlib.Core.Path.{ap, ◌∙◌, subst}
+use mathlib.Core.Path.{◌∙◌, subst}
 use native.Mathlib.Omega.{arith}
 use Rattle.mask.specs.Mask.{bit}
 use Rattle.rule_forward.proofs.RuleLaws.{forward_said}
-use Rattle.rule_forward.proofs.StepLaws.{length_checked, later_in}
+use Rattle.rule_forward.proofs.StepLaws.{later_in}
 use Rattle.rule_forward.proofs.forward.Goals as goal
-
-pub reason-q-requires : goal.reason-q-requires
-reason-q-requires c = (simp length-set (omega arith), omega arith)
 
 pub check_each-requires : goal.check_each-requires
 check_each-requires c =
@@ -17,13 +14,6 @@ check_each-requires c =
     let p = c.requires in
     let e = length-set a.w.now a.x c.single.result in
     (omega arith, p.1, omega arith, λ k t. later_in _ _ _ a.arrays.now.most k (subst (λ z. T (bit z k)) c.later-m.ensures t))
-
-pub shape_of-w : goal.shape_of-w
-shape_of-w c =
-    let a = c.args in
-    let p = c.requires in
-    let e = length-set a.w.now a.x c.single.result in
-    ap length c.check_each.ensures.1 ∙ length_checked _ _ _ _ _ a.arrays.now.most _ (omega arith) _ ∙ e
 
 pub returns : goal.returns
 returns c =

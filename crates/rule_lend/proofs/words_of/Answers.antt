@@ -7,4 +7,4 @@ use Rattle.rule_lend.proofs.words_of.Goals as goal
 
 pub returns : goal.returns
 unfolding words_for
-returns c = rw (c.copy_from_slice.ensures.after, c.requires.1) (ap (λ (r : List ℕ). c.args.list.now ++ r) (drop-replicate {X = ℕ} c.args.n 128 0))
+returns c = rw c.copy_from_slice.ensures.after (ap (λ (r : List ℕ). c.args.list.now ++ r) (drop-replicate {X = ℕ} _ 128 0))

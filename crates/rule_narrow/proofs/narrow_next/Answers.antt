@@ -1,10 +1,6 @@
-use lib.ListN.{length-set}
 use native.Mathlib.Omega.{arith}
 use Rattle.rule_narrow.proofs.NextLaws.{narrows}
 use Rattle.rule_narrow.proofs.narrow_next.Goals as goal
-
-pub bounds-w-i-2 : goal.bounds-w-i-2
-bounds-w-i-2 c = simp length-set (omega arith)
 
 pub returns : goal.returns
 returns c =

@@ -1,16 +1,11 @@
 use Prim.Native.Nat.{◌<◌}
 use borrow.Author.Rules.{rules}
 use lib.Bits.{and_lt}
-use mathlib.Core.Path.{ap, ◌∙◌}
+use mathlib.Core.Path.{◌∙◌}
 use native.Mathlib.Omega.{arith}
 use Rattle.mask.proofs.Chains.{took_lt}
 use Rattle.rule_narrow.proofs.PureLaws.{common_next, common_stop, common_end, pure_stated}
 use Rattle.rule_narrow.proofs.pure_values.Goals as goal
-
-pub loop-j-init : goal.loop-j-init
-loop-j-init c =
-    let e = ap (λ s. s.left) c.into_iter-j-iterator.ensures.into_iter_gives ∙ c.members_of-j-items.ensures ∙ c.neighbours.ensures in
-    (omega (arith, c.type_inv.w c.args.x), rw e)
 
 pub returns-then-out-eq0 : goal.returns-then-out-eq0
 returns-then-out-eq0 c = λ P S. common_stop _ _ _ _ _ _ c.if-out-eq0.true c.loop-j.invariant.1 ∙ pure_stated P _ _ S _ c.requires.0 _ (omega (arith, c.type_inv.w c.args.x))

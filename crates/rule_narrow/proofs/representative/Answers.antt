@@ -1,10 +1,6 @@
-use lib.Pow.{pow_pos}
 use mathlib.Core.Path.{sym, ◌∙◌}
 use Rattle.rule_narrow.proofs.InterchangeLaws.{representative_none, representative_one}
 use Rattle.rule_narrow.proofs.representative.Goals as goal
-
-pub overflow_sub-one : goal.overflow_sub-one
-overflow_sub-one c = rw c.single-one.ensures (pow_pos _)
 
 pub returns-then-some_interchange : goal.returns-then-some_interchange
 returns-then-some_interchange c = representative_none _ _ _ _ _ c.requires.1 c.single-one.ensures (sym c.some_interchange.ensures ∙ c.if-some_interchange.true)

@@ -13,5 +13,5 @@ returns-then-m-eq0 c = sym (ap (λ m. mask_of 16 (lowest (bit m))) c.if-m-eq0.tr
 pub single-requires : goal.single-requires
 single-requires c = let l = low_lt 16 _ c.ranges.m.fits c.if-m-eq0.false in search rules
 
-pub returns : goal.returns
-returns c = c.single.ensures ∙ ap (λ k. 2 ^ k) c.lowest.ensures ∙ smallest_some _ c.ranges.m.fits c.if-m-eq0.false
+pub returns-else-m-eq0 : goal.returns-else-m-eq0
+returns-else-m-eq0 c = c.single.ensures ∙ ap (λ k. 2 ^ k) c.lowest.ensures ∙ smallest_some _ c.ranges.m.fits c.if-m-eq0.false

@@ -8,5 +8,5 @@ returns-then-j-i c = box_none _ _ _ _ c.if-j-i.true
 pub returns-then-contains : goal.returns-then-contains
 returns-then-contains c = box_later _ _ _ _ c.if-j-i.false (sym c.contains.ensures ∙ c.if-contains.true)
 
-pub returns : goal.returns
-returns c = c.single.ensures ∙ box-leaf _ _ _ _ c.if-j-i.false (sym c.contains.ensures ∙ c.if-contains.false)
+pub returns-else-contains : goal.returns-else-contains
+returns-else-contains c = c.single.ensures ∙ box-leaf _ _ _ _ c.if-j-i.false (sym c.contains.ensures ∙ c.if-contains.false)

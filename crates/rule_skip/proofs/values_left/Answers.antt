@@ -1,18 +1,10 @@
 use Prim.Native.Nat.{◌<◌}
 use borrow.Author.Rules.{rules}
 use lib.Bits.{and_lt}
-use mathlib.Core.Path.{ap, ◌∙◌}
 use native.Mathlib.Omega.{arith}
 use Rattle.mask.proofs.Chains.{took_lt}
-use Rattle.rule_skip.proofs.BoxLaws.{left-next, left-stop, left_end}
+use Rattle.rule_skip.proofs.BoxLaws.{left-next, left_end}
 use Rattle.rule_skip.proofs.values_left.Goals as goal
-
-pub loop-j-init : goal.loop-j-init
-loop-j-init c =
-    let e = ap (λ s. s.left) c.into_iter-j-iterator.ensures.into_iter_gives ∙ c.members_of-j-items.ensures ∙ c.neighbours.ensures in (search rules, rw e)
-
-pub returns-then-out-eq0 : goal.returns-then-out-eq0
-returns-then-out-eq0 c = left-stop _ _ _ _ _ _ _ c.if-out-eq0.true c.loop-j.invariant.1
 
 pub left_by-out-requires : goal.left_by-out-requires
 left_by-out-requires c = let l = took_lt c.in-Some.ensures.steps in search rules

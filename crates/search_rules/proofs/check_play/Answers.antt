@@ -32,14 +32,14 @@ returns-in-Some c =
       checked = record { lasts = λ e. absurd (true_holds (sym e)); moved = λ e. absurd (true_holds (sym e)); heeded = λ e _ _. absurd (true_holds (sym e)) };
     }
 
-pub returns : goal.returns
-returns c =
+pub returns-in-None : goal.returns-in-None
+returns-in-None c =
     let p = c.requires in
     let st = p.3.states in
     let g = c.forward-f.ensures.0 _ st in
-    let m = found_none _ _ (sym c.in_default.is ∙ g.0) in record {
+    let m = found_none _ _ (sym c.in-None.is ∙ g.0) in record {
       replies = λ P st. let f = c.forward-f.ensures.0 P st in
-          play_kept P _ _ st _ p.0 _ p.1 (λ k. omega (arith, c.slice_known-1.given k)) p.2 _ c.lowest-a.ensures _ _ refl f.1 (found_none _ _ (sym c.in_default.is ∙ f.0)) _;
+          play_kept P _ _ st _ p.0 _ p.1 (λ k. omega (arith, c.slice_known-1.given k)) p.2 _ c.lowest-a.ensures _ _ refl f.1 (found_none _ _ (sym c.in-None.is ∙ f.0)) _;
       checked = record {
         lasts = λ e. play_lasts _ _ _ st _ p.0 _ p.1 (λ k. omega (arith, c.slice_known-1.given k)) p.2 _ c.lowest-a.ensures _ _ refl g.1 m;
         moved = λ e. play_narrowed _ _ _ st _ p.0 _ p.1 (λ k. omega (arith, c.slice_known-1.given k)) p.2 _ c.lowest-a.ensures _ _ refl g.1 _ c.args.arrays.now.most m c.forward-f.ensures.1;

@@ -19,16 +19,16 @@ returns-in_err-r c =
     let w = play_shown _ _ _ _ ((search rules) ∙ play_refused _ _ _ (header_refuses _ _ (ap told_read (sym c.in_err-r.was) ∙ c.read.ensures.0)) _) in
     record { answer_value = w.0; position_value = w.1 }
 
-pub returns-in_err-q : goal.returns-in_err-q
-returns-in_err-q c =
-    let s = shows (goal.at.returns-in_err-q c).In_ok-r in
+pub returns-in_err-play_in : goal.returns-in_err-play_in
+returns-in_err-play_in c =
+    let s = shows (goal.at.returns-in_err-play_in c).In_ok-r in
     let d = ap domains_shown (sym c.in_ok-r.was) ∙ c.read.ensures.1 in
-    let w = play_shown _ _ _ _ ((search rules) ∙ play_read _ _ _ _ (λ k. omega (arith, c.type_inv.f k)) s d _ _ (sym c.in_err-q.was ∙ c.play_in.ensures)) in
+    let w = play_shown _ _ _ _ ((search rules) ∙ play_read _ _ _ _ (λ k. omega (arith, c.type_inv.f k)) s d _ _ (sym c.in_err-play_in.was ∙ c.play_in.ensures)) in
     record { answer_value = w.0; position_value = w.1 }
 
 pub returns : goal.returns
 returns c =
     let s = shows (goal.at.returns c).In_ok-r in
     let d = ap domains_shown (sym c.in_ok-r.was) ∙ c.read.ensures.1 in
-    let w = play_shown _ _ _ _ (play_read _ _ _ _ (λ k. omega (arith, c.type_inv.f k)) s d _ _ (sym c.in_ok-q.was ∙ c.play_in.ensures)) in
+    let w = play_shown _ _ _ _ (play_read _ _ _ _ (λ k. omega (arith, c.type_inv.f k)) s d _ _ (sym c.in_ok-play_in.was ∙ c.play_in.ensures)) in
     record { answer_value = w.0; position_value = w.1 }

@@ -1,15 +1,16 @@
-use mathlib.Core.Path.{◌≡◌, sym, ap, ◌∙◌}
+use mathlib.Core.Path.{◌≡◌, refl, sym, ap, ◌∙◌}
 use Prim.Native.Nat.{ℕ, ◌<◌}
 use mathlib.Core.List.{List}
 use lib.ListN.{get_or}
 use lib.Seq.{get_or-take}
 use native.Mathlib.Omega.{arith}
+use borrow.Author.Rules.{rules}
 use Rattle.solver_arrays.specs.declared.arrays.Arrays.{Arrays}
-use Rattle.std.specs.Prelude.{Err}
+use Rattle.std.specs.Prelude.{Result, Ok, Err, MatchResult}
 use Rattle.refusal.specs.declared.reason.Fault.{Fault}
 use Rattle.file_reader.specs.Reading.{n_of, domains_for, domains_of, verdict_of}
 use Rattle.file_reader.proofs.Accepted.{accepted, domains_is}
-use Rattle.file_decoder.specs.Decoded.{FileGiven}
+use Rattle.file_decoder.specs.Decoded.{FileGiven, Decodes}
 use Rattle.file_decoder.proofs.FileLaws.{problem_domains}
 use Rattle.bench.proofs.rules_alone.bench_decode.Goals as goal
 
@@ -27,8 +28,11 @@ first-given f A bytes g =
     ∙ ap (λ (l : List ℕ). get_or l 0 0) (sym g.domain ∙ problem_domains f g.fine bytes)
     ∙ get_or-take (n_of f) (domains_of f) 0 0 some
 
-pub returns-in-Ok : goal.returns-in-Ok
-returns-in-Ok c = first-given _ _ (λ k. omega (arith, c.type_inv.f k)) (c.decode.ensures.given _ c.in-Ok.is)
+-- Of any reply, where Q says of its arrays that k is their first domain.
+first-decoded : (f : List ℕ) (k : ℕ) (Q : Arrays → Type 0) → ((A : Arrays) → Q A → k ≡ get_or A.domains 0 0) → ((i : ℕ) → get_or f i 0 < 256)
+    → (r : Result Arrays Fault) → Decodes f r → MatchResult r Q (λ _. k ≡ 0) → k ≡ get_or (domains_of f) 0 0
+first-decoded f k Q same bytes (Ok A) d h = same A h ∙ first-given f A bytes (d.given A refl)
+first-decoded f k Q same bytes (Err e) d h = h ∙ first-refused f e (d.refused e refl)
 
-pub returns-in-Err : goal.returns-in-Err
-returns-in-Err c = first-refused _ _ (c.decode.ensures.refused _ c.in-Err.is)
+pub returns : goal.returns
+returns c = first-decoded _ _ _ (λ A q. search rules) (λ k. omega (arith, c.type_inv.f k)) _ c.decode.ensures c.map_or.ensures

@@ -23,7 +23,7 @@ loop-a-init c = refl
 
 pub loop-a-preserved : goal.loop-a-preserved
 loop-a-preserved c =
-    turn _ _ _ _ _ _ _ _ _ c.loop-a.invariant c.constraint_row.ensures c.contains.ensures
+    turn _ _ _ _ _ _ _ _ _ c.loop-a.invariant c.row.ensures c.contains.ensures
     (elim c.if-contains.branch [
       | then-contains w ↦ rw (w.if-contains.true, w.out-is, w.single-out.ensures)
       | else-contains w ↦ rw (w.if-contains.false, w.out-is)

@@ -1,11 +1,12 @@
-use Prim.Native.Nat.{ℕ, ◌<◌}
-use mathlib.Core.Path.{◌≡◌, refl, sym, ◌∙◌}
+use Prim.Native.Nat.{◌<◌}
+use mathlib.Core.Path.{◌≡◌, refl, sym, ap, ap₂, ◌∙◌}
+use mathlib.Core.Bool.{◌&&◌, and_comm}
+use native.Mathlib.Numerals.{add-one}
 use native.Mathlib.Omega.{arith}
 use borrow.Author.Rules.{rules}
-use Rattle.std.proofs.lemmas.Iterator.{serves_from_Range}
+use Rattle.mask.specs.Range.{each}
 use Rattle.refusal.proofs.Chain.{stops, goes, need_fine}
 use Rattle.file_layout.specs.Numbers.{row_fits, rows_fit, constraint_fits}
-use Rattle.file_layout.proofs.Below.{all_below}
 use Rattle.file_layout.proofs.NumberLaws.{order_out}
 use Rattle.file_layout.proofs.numbers.constraint_fits.Goals as goal
 use Rattle.file_layout.proofs.numbers.constraint_fits.Goals.{In_ok-needed}
@@ -32,19 +33,22 @@ domain-di-requires g c = let o = ordered g (goal.at.domain-di-requires g c).In_o
 pub domain-dj-requires : goal.domain-dj-requires
 domain-dj-requires g c = let o = ordered g (goal.at.domain-dj-requires g c).In_ok-needed in c.requires.domains _ (omega arith)
 
-pub all-requires-clause-callable : goal.all-requires-clause-callable
-all-requires-clause-callable g c = serves_from_Range (λ x q k. search rules) (λ x l h. (h, c.requires.rows x h))
+pub loop-a-init : goal.loop-a-init
+unfolding rows_fit each
+loop-a-init g c = λ r R. refl
+
+pub loop-a-preserved : goal.loop-a-preserved
+unfolding rows_fit each
+loop-a-preserved g c = λ r R. rw add-one
+    (and_comm c.loop-a.fits c.row_fits-fits.result ∙ ap₂ ◌&&◌ (c.row_fits-fits.ensures ∙ ap (row_fits _ _ _) (R _ _ c.loop-a-test.true c.row.ensures)) (c.loop-a.invariant r R))
 
 pub returns : goal.returns
-unfolding constraint_fits rows_fit
+unfolding constraint_fits
 returns g c = λ d r D R.
     let o = ordered g (goal.at.returns g c).In_ok-needed in
     let di : c.domain-di.result ≡ d c.args.i = D _ _ (omega arith) c.domain-di.ensures in
     let dj : c.domain-dj.result ≡ d c.args.j = D _ _ (omega arith) c.domain-dj.ensures in
-    let e : c.all.result ≡ rows_fit (d c.args.i) (d c.args.j) r 16 =
-    all_below 16 (λ a. row_fits (d c.args.i) (d c.args.j) a (r a)) c.all.ensures.ran refl
-    (λ x b q k.
-    let w : (y : ℕ) × goal.R-post g c.args.row x y × (b ≡ row_fits c.domain-di.result c.domain-dj.result x y) = search rules in
-    (search rules, λ h. w.2 ∙ rw (di, dj, R x w.0 h w.1))) in
+    let all : c.loop-a.a ≡ 16 = omega arith in
     goes _ _ (cc) c.in_ok-needed.was
-    (goes _ _ (rw (← c.pair_of.ensures) c.needed-2.ensures) c.in_ok-needed-2.was (rw (← e) c.needed-3.ensures))
+    (goes _ _ (rw (← c.pair_of.ensures) c.needed-2.ensures) c.in_ok-needed-2.was
+    (rw (← di, ← dj, ← all, ← c.loop-a.invariant r R) c.needed-3.ensures))

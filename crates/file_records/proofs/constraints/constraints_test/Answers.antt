@@ -15,14 +15,15 @@ pub loop-k-preserved : goal.loop-k-preserved
 unfolding constraints_test last_pair
 loop-k-preserved c = rw add-one (
   next_fine (constraints_test _ _ _ _) (λ (k : ℕ). constraint_test _ _ _ (last_pair _ _ k) (_ + 36 * k)) (λ k. refl) _ c.loop-k.invariant.0 (cc) c.in_ok-constraint_test.was,
-  c.pair_at-last.ensures.0,
+  c.pair-last.ensures.0,
 )
 
 pub returns-in_err-constraint_test : goal.returns-in_err-constraint_test
 unfolding constraints_test
 returns-in_err-constraint_test c =
-    (search rules)
-    ∙ first_refusal (constraints_test _ _ _ _) (λ (k : ℕ). constraint_test _ _ _ (last_pair _ _ k) (_ + 36 * k)) (λ k. refl) _ _ c.loop-k-test.true c.loop-k.invariant.0 (cc) c.in_err-constraint_test.was
+    rw (← c.end-q.ensures)
+    ((search rules)
+    ∙ first_refusal (constraints_test _ _ _ _) (λ (k : ℕ). constraint_test _ _ _ (last_pair _ _ k) (_ + 36 * k)) (λ k. refl) _ _ c.loop-k-test.true c.loop-k.invariant.0 (cc) c.in_err-constraint_test.was)
 
 pub returns : goal.returns
-returns c = sym (ap (constraints_test _ _ _ _) (omega arith) ∙ c.loop-k.invariant.0)
+returns c = rw (← c.end-q.ensures) (sym (ap (constraints_test _ _ _ _) (omega arith) ∙ c.loop-k.invariant.0))

@@ -10,10 +10,10 @@ pub returns-then-not-is_marked : goal.returns-then-not-is_marked
 unfolding rs_test
 returns-then-not-is_marked c = sym (not_so _ _ (cc))
 
-pub returns-in_err-opened_at : goal.returns-in_err-opened_at
+pub returns-in_err-opened : goal.returns-in_err-opened
 unfolding rs_test
-returns-in_err-opened_at c = (search rules) ∙ stops _ _ (cc) c.in_err-opened_at.was ∙ sym (so _ _ (cc))
+returns-in_err-opened c = (search rules) ∙ stops _ _ (cc) c.in_err-opened.was ∙ sym (so _ _ (cc))
 
 pub returns : goal.returns
 unfolding rs_test
-returns c = goes _ _ (cc) c.in_ok-opened_at.was (c.needed.ensures ∙ ap₂ need (c.is_rule_set.ensures ∙ ap is_rule_set c.byte_at.ensures.0) c.at.ensures) ∙ sym (so _ _ (cc))
+returns c = goes _ _ (cc) c.in_ok-opened.was (c.needed.ensures ∙ ap₂ need (c.is_rule_set.ensures ∙ ap is_rule_set c.byte.ensures.0) c.at.ensures) ∙ sym (so _ _ (cc))

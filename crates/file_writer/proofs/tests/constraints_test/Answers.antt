@@ -19,7 +19,7 @@ loop-t-init c = (refl, refl)
 abbrev test : List ℕ → ℕ → List ℕ → ℕ → Test
 test domains n xs t = constraint_fits (domain_in domains) n (last_in xs t) (one_in xs t) (two_in xs t) (row_handed xs t)
 
-fits : (c : After-constraint_fits) → c.constraint_fits.result ≡ test c.args.domains.now c.args.n c.args.xs.now c.loop-t.t-counter
+fits : (c : After-constraint_fits) → c.constraint_fits.result ≡ test c.args.domains.now c.args.x.n c.args.xs.now c.loop-t.t-counter
 fits c =
     rw (← c.loop-t.invariant.1)
     (c.constraint_fits.ensures (domain_in c.args.domains.now) (row_handed c.args.xs.now c.loop-t.t-counter) (λ v x h p. search rules) (λ a x h p. search rules))
@@ -29,7 +29,7 @@ unfolding constraints_test
 returns-in_err-constraint_fits c =
     let a = c.args in
     (search rules)
-    ∙ first_refusal (constraints_test (domain_in a.domains.now) a.n a.xs.now) (test a.domains.now a.n a.xs.now) (λ k. refl) _ _
+    ∙ first_refusal (constraints_test (domain_in a.domains.now) a.x.n a.xs.now) (test a.domains.now a.x.n a.xs.now) (λ k. refl) _ _
     c.loop-t-test.true c.loop-t.invariant.0 (fits (goal.at.returns-in_err-constraint_fits c).After-constraint_fits) c.in_err-constraint_fits.was
 
 pub loop-t-preserved : goal.loop-t-preserved
@@ -37,7 +37,7 @@ unfolding constraints_test last_in pair_in
 loop-t-preserved c =
     let a = c.args in
     rw add-one (
-      next_fine (constraints_test (domain_in a.domains.now) a.n a.xs.now) (test a.domains.now a.n a.xs.now) (λ k. refl) _
+      next_fine (constraints_test (domain_in a.domains.now) a.x.n a.xs.now) (test a.domains.now a.x.n a.xs.now) (λ k. refl) _
           c.loop-t.invariant.0 (fits (goal.at.loop-t-preserved c).After-constraint_fits) c.in_ok-constraint_fits.was,
       c.pair_of-last.ensures,
     )

@@ -5,4 +5,4 @@ use Rattle.file_writer.specs.Tests.{last_in, constraints_test}
 use Rattle.file_writer.proofs.tests.constraints_test.Given as goal
 
 abbrev pub invariant-loop-t : goal.invariant-loop-t
-invariant-loop-t l = (constraints_test (domain_in l.domains) l.n l.xs l.t-counter ≡ Fine) × (l.last ≡ last_in l.xs l.t-counter)
+invariant-loop-t l = (constraints_test (domain_in l.domains) l.x.n l.xs l.t-counter ≡ Fine) × (l.last ≡ last_in l.xs l.t-counter)

@@ -5,7 +5,7 @@ use Rattle.formula_index.proofs.MarkedLaws.{marked_next}
 use Rattle.formula_index.proofs.prefix.read_line.Goals as goal
 
 pub loop-x-preserved : goal.loop-x-preserved
-loop-x-preserved c = going_next c.loop-x.invariant _ c.in-Some.ensures.steps (λ l ls e. marked_next _ _ _ ls c.from.ensures e)
+loop-x-preserved c = going_next c.loop-x.invariant _ c.in-Some.ensures.steps (λ l ls e. marked_next _ _ _ ls e)
 
 pub returns : goal.returns
 unfolding marked quantified

@@ -1,5 +1,6 @@
 use Prim.Native.Nat.{ℕ, ◌+◌, ◌-◌}
 use mathlib.Core.Path.{◌∙◌}
+use mathlib.Core.Bool.{false}
 use native.Mathlib.Omega.{arith}
 use Rattle.formula_judge.proofs.RestLaws.{Tried, tried_as, tried_cut, tried_rest, rest_none, rest-first, rest_second}
 use Rattle.formula_judge.proofs.Index.+judge_rest.Goals as goal
@@ -8,7 +9,7 @@ use Rattle.formula_judge.proofs.Index.+judge_rest.Goals.{Joined-decided, then-de
 -- The two ways behind the first value meet.
 first-tried : (t : ℕ) (c : Joined-decided t) →
     let i = c.args.self.now in
-    Tried i.text.now i.start.now i.next.now i.head.now i.sides.now i.count (c.args.left - 1) (i.count - c.args.left + 1) 0 c.args.values.now c.if-decided.values c.if-decided.no
+    Tried i.text.now i.start.now i.next.now i.head.now i.sides.now i.count (c.args.left - 1) (i.count - c.args.left + 1) false c.args.values.now c.if-decided.values c.if-decided.no
 first-tried t c =
     let d = c.decided.ensures in
     let m = c.args.self.now.small in

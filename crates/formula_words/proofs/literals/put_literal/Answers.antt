@@ -1,8 +1,10 @@
 use Rattle.formula_words.proofs.WordLaws.{put_positive, put-negative}
 use Rattle.formula_words.proofs.literals.put_literal.Goals as goal
+use Rattle.formula_words.proofs.literals.put_literal.Goals.{then-not-positive, else-not-positive}
 
-pub returns-then-positive : goal.returns-then-positive
-returns-then-positive c = put_positive _ _ c.if-positive.true c.put_word.ensures
-
-pub returns-else-positive : goal.returns-else-positive
-returns-else-positive c = put-negative _ _ c.if-positive.false c.put_byte-e.ensures c.put_word-else-positive.ensures
+pub returns : goal.returns
+returns c =
+    elim c.if-not-positive.branch [
+      | then-not-positive w ↦ put-negative _ _ w.if-not-positive.true w.put_byte.ensures (rw w.t-is at c.put_word.ensures)
+      | else-not-positive w ↦ put_positive _ _ w.if-not-positive.false (rw w.t-is at c.put_word.ensures)
+    ]

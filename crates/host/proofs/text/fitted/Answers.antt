@@ -1,4 +1,4 @@
-use mathlib.Core.Path.{◌≡◌, refl, sym, ap, ◌∙◌}
+use mathlib.Core.Path.{◌≡◌, ap, ◌∙◌}
 use mathlib.Core.List.{[], ◌∷◌}
 use Prim.Native.Nat.{ℕ}
 use native.Mathlib.Omega.{arith}
@@ -6,6 +6,7 @@ use lib.ListN.{length}
 use borrow.Author.Rules.{rules}
 use Rattle.std.specs.Prelude.{Err}
 use Rattle.refusal.proofs.RepliedLaws.{reply_refused, reply_told, list_refused, list_left}
+use Rattle.buffer.proofs.PutLaws.{put-stored}
 use Rattle.file_writer.specs.Writing.{told}
 use Rattle.host.specs.Text.{fit_test, fit_told, fit_left}
 use Rattle.host.proofs.text.fitted.Goals as goal
@@ -24,7 +25,8 @@ pub returns : goal.returns
 unfolding fit_told fit_left fit_test
 returns c =
     let t = fit_test c.args.text.now (length c.args.buf.now) in
+    let s = c.new-t.ensures in
     record {
-      result_value = reply_told t _ c.needed.ensures c.in_ok-needed.was (ap (λ (n : ℕ). n ∷ []) (omega (arith, c.put.ensures.ends)));
-      buf_after = list_left t _ _ c.needed.ensures c.in_ok-needed.was c.put.ensures.bytes;
+      result_value = reply_told t _ c.needed.ensures c.in_ok-needed.was (ap (λ (n : ℕ). n ∷ []) (omega (arith, s.place, c.put.ensures.ends)));
+      buf_after = list_left t _ _ c.needed.ensures c.in_ok-needed.was (put-stored s.place s.buffer c.put.ensures (search rules));
     }

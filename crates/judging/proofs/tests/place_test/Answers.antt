@@ -1,19 +1,17 @@
-use mathlib.Core.Bool.{Bool}
-use mathlib.Core.Path.{◌≡◌, ap, ◌∙◌}
+use mathlib.Core.Path.{◌≡◌, ◌∙◌}
 use borrow.Author.Rules.{rules}
 use Rattle.std.specs.Prelude.{Err}
-use Rattle.refusal.specs.declared.reason.Reason.TheVariants.{Misfit}
-use Rattle.refusal.specs.Chain.{need}
 use Rattle.refusal.proofs.Chain.{stops, goes}
+use Rattle.position.specs.Position.{fit_test}
 use Rattle.judging.specs.Tests.{place_test}
 use Rattle.judging.proofs.tests.place_test.Goals as goal
 
-pub returns-in_err-needed : goal.returns-in_err-needed
-unfolding place_test
-returns-in_err-needed c =
-    let q : c.from_residual.result ≡ Err c.in_err-needed.field-0.0 = search rules in
-    q ∙ stops _ _ (c.needed.ensures ∙ ap (λ (b : Bool). need b Misfit) c.fits.ensures) c.in_err-needed.was
+pub returns-in_err-fit_test : goal.returns-in_err-fit_test
+unfolding place_test fit_test
+returns-in_err-fit_test c =
+    let q : c.from_residual.result ≡ Err c.in_err-fit_test.field-0.0 = search rules in
+    q ∙ stops _ _ c.fit_test.ensures c.in_err-fit_test.was
 
 pub returns : goal.returns
-unfolding place_test
-returns c = goes _ _ (c.needed.ensures ∙ ap (λ (b : Bool). need b Misfit) c.fits.ensures) c.in_ok-needed.was c.room_test.ensures
+unfolding place_test fit_test
+returns c = goes _ _ c.fit_test.ensures c.in_ok-fit_test.was c.room_test.ensures

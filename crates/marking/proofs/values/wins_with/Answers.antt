@@ -31,7 +31,7 @@ pub returns : goal.returns
 returns c =
     let p = c.requires.0 in
     let r = c.run.ensures in (
-      λ P o. (r.0 P o).won
+      λ P o. c.is_won.ensures ∙ (r.0 P o).won
           ∙ ap (λ (l : List ℕ). is_solved (search_from P c.args.s.set.bits l)) (ap plays_of c.pushed.ensures ∙ plays_pushed _ _ _ p.start.fits c.args.arrays.now.most (long (goal.at.returns c).Start) p.next _),
       r.1,
     )

@@ -4,4 +4,4 @@ use Rattle.report_text.proofs.lines.put_answer.Goals as goal
 
 pub returns : goal.returns
 unfolding answer_line verdict_text
-returns c = put_more _ c.put-a.ensures (put_more _ c.put_word-b.ensures (put_last c.put.ensures))
+returns c = put_more _ c.put.ensures (put_more _ c.put_word.ensures (put_last c.put-2.ensures))

@@ -4,4 +4,4 @@ use Rattle.report_text.proofs.lines.put_line.Goals as goal
 
 pub returns : goal.returns
 unfolding number_line
-returns c = put_more _ c.put-a.ensures (put_more _ c.put_number-b.ensures (put_last c.put.ensures))
+returns c = put_more _ c.put.ensures (put_more _ c.put_number.ensures (put_last c.put-2.ensures))

@@ -4,4 +4,4 @@ use Rattle.report_text.proofs.lines.put_next.Goals as goal
 
 pub returns : goal.returns
 unfolding next_line side_of
-returns c = put_more _ c.put-a.ensures (put_more _ c.put_number-b.ensures (put_more _ c.put-c.ensures (put_more _ c.put_word-d.ensures (put_last c.put.ensures))))
+returns c = put_more _ c.put.ensures (put_more _ c.put_number.ensures (put_more _ c.put-2.ensures (put_more _ c.put_word.ensures (put_last c.put-3.ensures))))

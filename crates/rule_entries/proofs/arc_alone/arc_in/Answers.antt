@@ -1,11 +1,10 @@
 use borrow.Author.Rules.{rules}
-use borrow.Author.Tests.{lt-ltb}
 use mathlib.Core.Path.{◌≡◌, sym, ap, ◌∙◌}
+use native.Mathlib.Omega.{arith}
 use Rattle.std.specs.Prelude.{Err}
-use Rattle.mask.proofs.Logic.{true_holds, clash}
 use Rattle.refusal.specs.Told.{reason_told, told_by}
 use Rattle.refusal.proofs.RepliedLaws.{reply_refused, reply_told, list_refused, list_left}
-use Rattle.rule_lend.proofs.LendLaws.{LentList, list_fine, list_same, may_lend_lem, words_long}
+use Rattle.rule_lend.proofs.LendLaws.{LentList, list_fine, list_same, may_lend_lem}
 use Rattle.rule_entries.specs.Alone.{loss_values, arc_reply, arc_list}
 use Rattle.rule_entries.proofs.ArcLaws.{arc_ends}
 use Rattle.rule_entries.proofs.arc_alone.arc_in.Goals as goal
@@ -24,16 +23,10 @@ returns-in_err-list_test c = λ P h.
     (ap (told_by loss_values reason_told) q ∙ reply_refused _ _ s w, list_refused _ _ _ s w)
 
 pub words_of-w-requires : goal.words_of-w-requires
-words_of-w-requires c = (c.args.arrays.now.most, (lent (goal.at.words_of-w-requires c).In_ok-list_test).size)
-
-pub arc-requires : goal.arc-requires
-arc-requires c =
-    let e = c.everyone.ensures in
-    let l = words_long _ _ _ c.words_of-w.ensures (lent (goal.at.arc-requires c).In_ok-list_test).size c.args.arrays.now.most in
-    (l, (λ x k lx lk b. absurd (clash b (true_holds (e k ∙ lt-ltb k _ lk)))), (λ x lx b. absurd (clash b (true_holds (e x ∙ lt-ltb x _ lx)))))
+words_of-w-requires c = let s = (lent (goal.at.words_of-w-requires c).In_ok-list_test).size in omega arith
 
 pub put_back-requires : goal.put_back-requires
-put_back-requires c = (c.args.arrays.now.most, (lent (goal.at.put_back-requires c).In_ok-list_test).size)
+put_back-requires c = let s = (lent (goal.at.put_back-requires c).In_ok-list_test).size in omega arith
 
 pub returns : goal.returns
 unfolding arc_reply arc_list

@@ -1,6 +1,7 @@
 use borrow.Author.Rules.{rules}
 use mathlib.Core.Path.{◌≡◌, sym, ap, ◌∙◌}
 use Prim.Native.Nat.{◌<◌}
+use native.Mathlib.Omega.{arith}
 use Rattle.std.specs.Prelude.{Err}
 use Rattle.refusal.specs.Told.{reason_told, told_by}
 use Rattle.refusal.proofs.RepliedLaws.{reply_refused, reply_told}
@@ -21,7 +22,7 @@ returns-in_err-variable_test c = λ P h.
     ap (told_by look_values reason_told) q ∙ reply_refused _ _ (c.variable_test.ensures ∙ variable_same P _ _ h _) c.in_err-variable_test.was
 
 pub words_of-w-requires : goal.words_of-w-requires
-words_of-w-requires c = (c.args.arrays.now.most, (lent (goal.at.words_of-w-requires c).In_ok-variable_test).0.size)
+words_of-w-requires c = let s = (lent (goal.at.words_of-w-requires c).In_ok-variable_test).0.size in omega arith
 
 pub look_ahead-requires : goal.look_ahead-requires
 look_ahead-requires c =

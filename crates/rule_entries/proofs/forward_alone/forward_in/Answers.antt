@@ -1,6 +1,7 @@
 use borrow.Author.Rules.{rules}
 use mathlib.Core.Path.{◌≡◌, sym, ap, ◌∙◌}
 use Prim.Native.Nat.{◌<◌}
+use native.Mathlib.Omega.{arith}
 use Rattle.std.specs.Prelude.{Err}
 use Rattle.refusal.specs.Told.{reason_told, told_by}
 use Rattle.refusal.proofs.RepliedLaws.{reply_refused, reply_told, list_refused, list_left}
@@ -23,7 +24,7 @@ returns-in_err-value_test c = λ P h.
     (ap (told_by check_values reason_told) q ∙ reply_refused _ _ s w, list_refused _ _ _ s w)
 
 pub words_of-w-requires : goal.words_of-w-requires
-words_of-w-requires c = (c.args.arrays.now.most, (lent (goal.at.words_of-w-requires c).In_ok-value_test).0.size)
+words_of-w-requires c = let s = (lent (goal.at.words_of-w-requires c).In_ok-value_test).0.size in omega arith
 
 pub forward-named-requires : goal.forward-named-requires
 forward-named-requires c =
@@ -32,7 +33,7 @@ forward-named-requires c =
     (l.1, l.2, words_long _ _ _ e l.0.size c.args.arrays.now.most, words_nonzero _ _ _ e l.0.size l.0.some)
 
 pub put_back-requires : goal.put_back-requires
-put_back-requires c = (c.args.arrays.now.most, (lent (goal.at.put_back-requires c).In_ok-value_test).0.size)
+put_back-requires c = let s = (lent (goal.at.put_back-requires c).In_ok-value_test).0.size in omega arith
 
 pub returns : goal.returns
 unfolding forward_reply forward_list

@@ -1,14 +1,7 @@
-use lib.ListN.{length-set, length}
-use mathlib.Core.Path.{sym, ap, ◌∙◌}
+use mathlib.Core.Path.{sym, ◌∙◌}
 use native.Mathlib.Omega.{arith}
-use Rattle.solver_arrays.proofs.WordLaws.{length-put_reason}
 use Rattle.rule_forward.proofs.StepLaws.{checked_same, checked_new}
 use Rattle.rule_forward.proofs.steps.keep_at.Goals as goal
-
-pub shape_of-w : goal.shape_of-w
-shape_of-w c =
-    let a = c.args in
-    ap length c.add_reason.ensures ∙ length-put_reason _ _ _ ∙ length-set a.w.now a.j c.left_of-k.result
 
 pub returns-then-k-m : goal.returns-then-k-m
 returns-then-k-m c =

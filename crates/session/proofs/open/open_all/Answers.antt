@@ -7,7 +7,7 @@ use Rattle.mask.specs.Range.{count}
 use Rattle.mask.specs.Mask.{bit}
 use Rattle.mask.proofs.Range.{count-bound}
 use Rattle.session.proofs.OpenLaws.{masks_next, counts-next, all_done}
-use Rattle.session.specs.Opening.{open_at, open_masks, mask_counts}
+use Rattle.session.specs.Opening.{open_masks, mask_counts}
 use Rattle.session.proofs.open.open_all.Goals as goal
 
 pub loop-j-init : goal.loop-j-init
@@ -22,7 +22,6 @@ pub overflow_cast-counts : goal.overflow_cast-counts
 overflow_cast-counts c = let k = few _ _ c.count_of.ensures in omega arith
 
 pub loop-j-preserved : goal.loop-j-preserved
-unfolding open_at
 loop-j-preserved c =
     let l = c.loop-j in
     let b : l.j < 32 = search rules in (

@@ -2,4 +2,4 @@ use Rattle.host_replies.proofs.ReplyLaws.{marks}
 use Rattle.host_replies.proofs.games.MarksFromResultMarkingMarksRefusal.from.Goals as goal
 
 pub returns : goal.returns
-returns c = rw (c.from-a.ensures, c.unwrap_or-m.ensures) (marks c.args.answer)
+returns c = rw c.from-a.ensures (marks c.args.answer _ c.unwrap_or_default-m.ensures)

@@ -1,2 +1,0 @@
--- A value of a reply as its number.
-pub mod NumberLaws

@@ -1,0 +1,7 @@
+use Rattle.buffer.specs.Stored.{joined}
+use Rattle.formula_clauses.specs.Lines.{Lines}
+use Rattle.formula_clauses.specs.Clauses.{existential_of}
+use Rattle.formula_clauses.proofs.Clauses.put_existentials.Given as goal
+
+abbrev pub invariant-loop-i : goal.invariant-loop-i
+invariant-loop-i l = Lines l.initial.self (joined (existential_of l.arrays) l.i) l.self
