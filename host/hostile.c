@@ -13,13 +13,13 @@
 
 typedef enum {
     INTERFACE, READ, LOOK_UP, WRITE, REPORT, PLAY, TAKE_BACK, SESSION_PLAY, SESSION_TAKE_BACK, OPEN, JUDGE, MARK, JUDGE_IN, MARK_IN, SEARCH,
-    REPLAY, ARC, FORWARD_CHECK, LOOK_AHEAD, PURE, INTERCHANGEABLE, FORMULA, JUDGE_FORMULA, ENTRIES
+    REPLAY, ARC, FORWARD_CHECK, LOOK_AHEAD, PURE, INTERCHANGEABLE, FORMULA, JUDGE_FORMULA, GROUPS, GROUP, ENTRIES
 } entry;
 
 static const char *const names[ENTRIES] = {
     "kb_interface", "kb_read", "kb_look_up", "kb_write", "kb_report", "kb_play", "kb_take_back", "kb_session_play", "kb_session_take_back",
     "kb_open", "kb_judge", "kb_mark", "kb_judge_in", "kb_mark_in", "kb_search", "kb_replay", "kb_arc", "kb_forward_check", "kb_look_ahead",
-    "kb_pure", "kb_interchangeable", "kb_formula", "kb_judge_formula",
+    "kb_pure", "kb_interchangeable", "kb_formula", "kb_judge_formula", "kb_groups", "kb_group",
 };
 
 /* The most bytes that a call is lent, whole pages. */
@@ -38,7 +38,7 @@ typedef struct {
     size_t text_length;
     int soon;
     kb_position position;
-    uint64_t rules, option, i, j, x, a;
+    uint64_t rules, option, i, j, x, a, group;
     const uint8_t *calls;
     size_t call_count;
     uint16_t list[40];
@@ -68,11 +68,13 @@ typedef struct {
         kb_looked looked;
         kb_values values;
         kb_formula_judgement formula_judgement;
+        kb_group_list group_list;
     } reply;
     uint8_t lent[MOST];
 } outcome;
 
-_Static_assert(sizeof(kb_opened) == 24 + 96 && sizeof(kb_searched) == 48 + 128 && sizeof(kb_moved) == 24 + 40, "replies without padding");
+_Static_assert(sizeof(kb_opened) == 24 + 96 && sizeof(kb_searched) == 48 + 128 && sizeof(kb_moved) == 24 + 40
+               && sizeof(kb_group_list) == 32 + 32, "replies without padding");
 
 enum { DIRT = 0x5a };
 
@@ -87,11 +89,17 @@ static int lends_room(entry e) { return e == JUDGE_IN || e == MARK_IN; }
 static int writes_formula(entry e) { return e == FORMULA || e == JUDGE_FORMULA; }
 static size_t room_bytes(const job *j) { return 2 * 128 * (j->n + 1); }
 
+/* The length of the file of the group asked for; of the whole file where there is no such group. */
+static size_t asked_length(const arguments *g) {
+    uint32_t groups[32];
+    return g->group < groups_of(g->job, groups) ? group_length(g->job, groups[g->group]) : job_length(g->job);
+}
+
 /* How much memory this entry is lent in an ordinary call. A formula's text of more than MOST bytes does not fit then. */
 static size_t ordinary_size(entry e, const arguments *g) {
     const job *j = g->job;
     return e == WRITE ? job_length(j) : e == REPORT ? KB_TEXT : lends_session(e) ? sizeof(kb_session) : lends_room(e) ? room_bytes(j)
-         : lends_list(e) ? 2 * j->n : writes_formula(e) ? (g->text_length < MOST ? g->text_length : MOST) : 0;
+         : lends_list(e) ? 2 * j->n : writes_formula(e) ? (g->text_length < MOST ? g->text_length : MOST) : e == GROUP ? asked_length(g) : 0;
 }
 
 /* Whether to make the call with this much memory. The judge of formulas may go through all values of all booleans: it is asked only where
@@ -142,6 +150,8 @@ static void call(entry e, const arguments *g, outcome *o) {
     case INTERCHANGEABLE: o->reply.values = kb_interchangeable(f, l, words, w, g->x); break;
     case FORMULA: o->reply.written = kb_formula(f, l, g->lent, g->size); break;
     case JUDGE_FORMULA: o->reply.formula_judgement = kb_judge_formula(f, l, g->lent, g->size); break;
+    case GROUPS: o->reply.group_list = kb_groups(f, l); break;
+    case GROUP: o->reply.written = kb_group(f, l, g->group, g->lent, g->size); break;
     case ENTRIES: break;
     }
     if (g->size != 0) memcpy(o->lent, g->lent, g->size);
@@ -179,10 +189,13 @@ static int fits_list(const arguments *g) {
 static uint64_t refused(entry e, const arguments *g) {
     const job *j = g->job;
     uint64_t plays = g->position.plays;
+    uint32_t groups[32];
     if (e == LOOK_UP) return g->i < g->j && g->j < j->n ? 0 : 11;
     if (e == REPLAY) return g->rules > 127 ? 8 : 0;
     if (e < PLAY) return 0;
     if (writes_formula(e)) return g->size < g->text_length ? 12 : 0;
+    if (e == GROUP) return g->group < groups_of(j, groups) ? 0 : 11;
+    if (e == GROUPS) return 0;
     if (lends_list(e)) {
         if (!fits_list(g)) return 13;
         if (e != ARC && g->x >= j->n) return 11;
@@ -252,6 +265,7 @@ static void expect(entry e, const arguments *g, outcome *o, const outcome *got) 
     char text[KB_TEXT + 1];
     const job *j = g->job;
     uint16_t list[40];
+    uint32_t groups[32];
     memset(&o->reply, 0, sizeof o->reply);
     fill(e, g, o->lent);
     if (e == PLAY || e == TAKE_BACK) o->reply.moved.position = g->position;
@@ -330,6 +344,19 @@ static void expect(entry e, const arguments *g, outcome *o, const outcome *got) 
         o->reply.formula_judgement.won = (uint64_t)verdict(j, (kb_position){0, {0}}), o->reply.formula_judgement.length = g->text_length;
         memcpy(o->lent, g->text, g->text_length);
         break;
+    case GROUPS:
+        o->reply.group_list.count = groups_of(j, groups);
+        for (uint64_t k = 0; k < j->n; k++)
+            while (!(groups[o->reply.group_list.group[k]] >> k & 1)) o->reply.group_list.group[k]++;
+        break;
+    case GROUP: {
+        static job own;
+        groups_of(j, groups);
+        group_job(j, groups[g->group], &own);
+        job_bytes(&own, bytes);
+        written(g, o, bytes, job_length(&own));
+        break;
+    }
     default: break;
     }
 }
@@ -442,6 +469,7 @@ static kb_position some_position(const job *j, uint64_t plays) {
 /* This many plays, some list and some numbers that the job allows. */
 static void some_numbers(arguments *g, uint64_t plays) {
     const job *j = g->job;
+    uint32_t groups[32];
     g->position = some_position(j, plays);
     for (uint64_t k = 0; k < j->n; k++) {
         g->list[k] = j->domains[k] & (uint16_t)drawn();
@@ -450,6 +478,7 @@ static void some_numbers(arguments *g, uint64_t plays) {
     g->rules = drawn() % 128, g->option = some_option(j->domains[plays % j->n]);
     g->j = drawn() % j->n, g->i = g->j ? drawn() % g->j : 0;
     g->x = drawn() % j->n, g->a = some_option(g->list[g->x]);
+    g->group = drawn() % groups_of(j, groups);
 }
 
 /* ---- the parts */
@@ -522,11 +551,11 @@ static void cuts_of(const job *j, size_t by) {
         int longer = length > job_length(j);
         h.length = length, h.number = longer ? 9 : 1, h.place = longer ? job_length(j) : cut_record(j, length);
         for (int wrong = 0; wrong < 2; wrong++) {
-            if (wrong) h.rules = 256, h.position.plays = UINT64_MAX, h.list[0] = 0, h.i = h.x = h.a = h.option = UINT64_MAX;
+            if (wrong) h.rules = 256, h.position.plays = UINT64_MAX, h.list[0] = 0, h.i = h.x = h.a = h.option = h.group = UINT64_MAX;
             for (int way = 0; way < WAYS; way++) {
                 h.file = lend_copy(FILES, way, bytes, length);
                 for (entry e = 0; e < ENTRIES; e++) {
-                    int little = wrong && (lends_room(e) || writes_formula(e));
+                    int little = wrong && (lends_room(e) || writes_formula(e) || e == GROUP);
                     if (e != WRITE) attempt_with("cut", e, h, way, little ? 2 : ordinary_size(e, &h));
                 }
             }
@@ -554,11 +583,11 @@ static uint64_t edge(uint64_t k) {
     return from[k / AROUND] + k % AROUND - 2;
 }
 
-enum { NUMBERS = 12 };
+enum { NUMBERS = 13 };
 
 static uint64_t *number_of(arguments *g, uint64_t which) {
-    uint64_t *const all[NUMBERS] = {&g->rules, &g->option, &g->i, &g->j, &g->x, &g->a, &g->position.plays, &g->n, &g->m, &g->given, &g->set,
-                                    &g->universal};
+    uint64_t *const all[NUMBERS] = {&g->rules, &g->option, &g->i, &g->j, &g->x, &g->a, &g->group, &g->position.plays, &g->n, &g->m,
+                                    &g->given, &g->set, &g->universal};
     return all[which];
 }
 
@@ -672,6 +701,24 @@ static void formulas(void) {
     }
 }
 
+/* Jobs of up to 32 choices and of one group to many: each group in buffers that are short, exact and longer, and the numbers behind. */
+static void splits(void) {
+    for (uint64_t round = 0; round < 300; round += step(15)) {
+        uint64_t n = 1 + drawn() % 32;
+        make_job(&made, n, 0x8005, drawn() % 101, (unsigned)(drawn() % (1 + 200 / n)), drawn() % 60);
+        made.given = drawn() % 2, made.rules = drawn() % 128;
+        uint32_t groups[32];
+        uint64_t count = groups_of(&made, groups);
+        arguments g = ordinary(&made);
+        attempt_with("groups", GROUPS, g, HEAP, 0);
+        for (g.group = 0; g.group < count + 2; g.group++) {
+            size_t length = asked_length(&g);
+            const size_t sizes[] = {0, 1, length / 2, length - 1, length, length + 1, length + 40};
+            for (int k = 0; k < WAYS * 7; k++) attempt_with("a group", GROUP, g, k % WAYS, sizes[k / WAYS]);
+        }
+    }
+}
+
 /* Memory that is short by any size, exact, and longer, and lists that fit or do not. */
 static void sizes(void) {
     for (int way = 0; way < WAYS; way++) {
@@ -684,6 +731,7 @@ static void sizes(void) {
             attempt_with("a buffer", FORMULA, g, way, size);
             attempt_with("a buffer", JUDGE_FORMULA, g, way, size);
         }
+        for (size_t size = 0; size <= asked_length(&g) + 40; size++) attempt_with("a buffer", GROUP, g, way, size);
         for (size_t size = 0; size <= room_bytes(&made) + 200; size += 2 * step(50)) {
             attempt_with("a room", JUDGE_IN, g, way, size);
             attempt_with("a room", MARK_IN, g, way, size);
@@ -879,6 +927,7 @@ int main(int count, char **words) {
     positions();
     wrong_lists();
     formulas();
+    splits();
     sizes();
     overlaps();
     crowd();

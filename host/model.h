@@ -1,5 +1,6 @@
-/* The game and the first five rules on the numbers of a job, each as document 01 words it, for small jobs, and the text of the job's
-   formula, as card 1 of document 02 words it: a plain model beside which the entries are tried. It shares nothing with the library. */
+/* The game and the first five rules on the numbers of a job, each as document 01 words it, for small jobs, the text of the job's formula,
+   as card 1 of document 02 words it, and its groups, as card 4 does: a plain model beside which the entries are tried. It shares nothing
+   with the library. */
 #ifndef MODEL_H
 #define MODEL_H
 
@@ -265,6 +266,58 @@ static size_t formula_text(const job *j, uint8_t *bytes, size_t most) {
     if (choices[j->n - 1].day) put_number(&t, "e ", booleans, " 0\n");
     put_clauses(&t, j, choices, booleans);
     return t.length;
+}
+
+/* ---- the job's groups */
+
+/* The choices that hang together with choice k, as bits: over and over all tables, until none joins another choice. */
+static uint32_t group_with(const job *j, uint64_t k) {
+    uint32_t all = 1u << k, before = 0;
+    while (all != before) {
+        before = all;
+        for (const uint16_t *t = j->tables; t < j->tables + TABLE * j->m; t += TABLE) {
+            uint32_t both = 1u << t[0] | 1u << t[1];
+            if (all & both) all |= both;
+        }
+    }
+    return all;
+}
+
+/* The groups as bits, by their smallest choices: how many. */
+static uint64_t groups_of(const job *j, uint32_t *groups) {
+    uint64_t count = 0;
+    uint32_t seen = 0;
+    for (uint64_t k = 0; k < j->n; k++) {
+        if (seen >> k & 1) continue;
+        groups[count] = group_with(j, k);
+        seen |= groups[count++];
+    }
+    return count;
+}
+
+/* The length of the file of this group. */
+static size_t group_length(const job *j, uint32_t group) {
+    size_t length = 7 + (j->given ? 3 : 0);
+    for (uint64_t k = 0; k < j->n; k++) length += group >> k & 1 ? 4 : 0;
+    for (const uint16_t *t = j->tables; t < j->tables + TABLE * j->m; t += TABLE) length += group >> t[0] & 1 ? 36 : 0;
+    return length;
+}
+
+/* The job of this group, its choices renumbered in order. */
+static void group_job(const job *j, uint32_t group, job *to) {
+    uint16_t places[32];
+    to->n = to->m = to->universal = 0, to->given = j->given, to->rules = j->rules;
+    for (uint64_t k = 0; k < j->n; k++) {
+        if (!(group >> k & 1)) continue;
+        to->universal |= (uint64_t)universal(j, k) << to->n;
+        to->domains[to->n] = j->domains[k], places[k] = (uint16_t)to->n++;
+    }
+    for (const uint16_t *t = j->tables; t < j->tables + TABLE * j->m; t += TABLE) {
+        uint16_t *own = to->tables + TABLE * to->m;
+        if (!(group >> t[0] & 1)) continue;
+        memcpy(own, t, 2 * TABLE);
+        own[0] = places[t[0]], own[1] = places[t[1]], to->m++;
+    }
 }
 
 #endif

@@ -39,7 +39,9 @@ static volatile uint64_t sink;
     X(kb_look_ahead, kb_look_ahead(file, length, list, 32, 0).lost)                                                                       \
     X(kb_pure, kb_pure(file, length, list, 32, 0).values)                                                                                 \
     X(kb_interchangeable, kb_interchangeable(file, length, list, 32, 0).values)                                                           \
-    X(kb_formula, kb_formula(file, length, formula, KB_FORMULA).length)
+    X(kb_formula, kb_formula(file, length, formula, KB_FORMULA).length)                                                                   \
+    X(kb_groups, kb_groups(file, length).count)                                                                                           \
+    X(kb_group, kb_group(file, length, 0, buffer, KB_FILE).length)
 
 /* The frame of such a function is part of the measure: a few hundred bytes. */
 #define CALL(name, field) static void *call_##name(void *unused) { sink = (field); return unused; }

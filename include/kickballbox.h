@@ -1,4 +1,5 @@
-/* Kickballbox for a C host: job files read, looked up, written, played, judged, marked, and written as boolean formulas.
+/* Kickballbox for a C host: job files read, looked up, written, played, judged, marked, written as boolean formulas, and split into the
+   groups of choices that hang together.
 
    The functions are in libhost.a (`host/library` writes it), for x86-64 Linux. Each is proved to end, to stay inside the memory that it
    is lent, to reply what is said here and to write nothing else, for every argument; crates/host has the statements.
@@ -27,13 +28,15 @@
        4 Domain   8 Rules   12 Room      23 Misfit   a position that the file does not allow
                             13 List
 
+   11 Choice is also the number of a group that the file does not have (kb_group).
+
    No function keeps anything from call to call or takes memory from the heap, so calls may run side by side on several threads, as
    long as none writes what another is lent.
 
    Stack: give a call KB_STACK bytes below its caller's frame, whatever the file, but kb_judge_formula KB_FORMULA_STACK: 992 KB of its
    frame are an index of the clauses, and it calls itself once for each boolean, 512 at most. The measured need is less: the proof
-   knows of no stack; host/stack.c measures it (51,088 bytes at the deepest, kb_report with 32 choices played one below another;
-   about 1.1 MB for kb_judge_formula). */
+   knows of no stack; host/stack.c measures it (122,884 bytes at the deepest, kb_group; 116,024 for kb_report with 32 choices played
+   one below another; about 1.1 MB for kb_judge_formula). */
 #ifndef KICKBALLBOX_H
 #define KICKBALLBOX_H
 
@@ -46,7 +49,7 @@ extern "C" {
 
 /* Raised by every change of a function or a struct below. A program asks `kb_interface() == KB_INTERFACE` once, before any other
    call: else header and library are not of one make. */
-#define KB_INTERFACE 3
+#define KB_INTERFACE 4
 
 #define KB_FINISHED 0
 #define KB_REFUSED 1
@@ -208,6 +211,15 @@ typedef struct {
     uint64_t length;
 } kb_formula_judgement;
 
+/* How many groups the choices form, and the group of each choice. From n on it is zero. */
+typedef struct {
+    uint64_t kind;
+    uint64_t number;
+    uint64_t place;
+    uint64_t count;
+    uint8_t group[32];
+} kb_group_list;
+
 /* KB_INTERFACE of the library. */
 uint64_t kb_interface(void);
 
@@ -313,6 +325,20 @@ kb_written kb_formula(const uint8_t *file, size_t length, uint8_t *buffer, size_
 /* Writes it and judges the text that stands there, one boolean after another; a branch ends at the first clause that is false. Its time
    is exponential in the number of booleans by nature, and no rule shortens it: it is for small jobs, a stock QBF solver for large ones. */
 kb_formula_judgement kb_judge_formula(const uint8_t *file, size_t length, uint8_t *buffer, size_t size);
+
+/* ---- groups
+
+   Two choices hang together if a chain of tables joins them; a table joins its two choices whatever it permits. Each choice lies in one
+   group and no table joins two groups, so the job is won exactly if the job of each group is. Groups are numbered from 0 by their smallest
+   choice. */
+
+/* Lists the groups. Refuses the file. */
+kb_group_list kb_groups(const uint8_t *file, size_t length);
+
+/* Writes this group as a job file at the front of the buffer: its choices with their masks, renumbered in order, each the shift's or the day's as it
+   was, all its tables, and the file's rule set, if it has one. Replies the length; bytes behind it keep their contents. KB_FILE bytes suffice
+   for every group. Refuses the file; then 11 (no such group); 12 (the buffer is shorter than the group's file). */
+kb_written kb_group(const uint8_t *file, size_t length, uint64_t group, uint8_t *buffer, size_t size);
 
 #ifdef __cplusplus
 }

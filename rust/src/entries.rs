@@ -125,6 +125,14 @@ pub struct FormulaJudgement {
     pub length: u64,
 }
 
+#[repr(C)]
+#[derive(Clone, Copy, Debug, Default, PartialEq, Eq)]
+pub struct GroupList {
+    pub answer: Answer,
+    pub count: u64,
+    pub group: [u8; 32],
+}
+
 #[rustfmt::skip]
 extern "C" {
     pub fn kb_interface() -> u64;
@@ -160,6 +168,9 @@ extern "C" {
 
     pub fn kb_formula(file: *const u8, length: usize, buffer: *mut u8, size: usize) -> Written;
     pub fn kb_judge_formula(file: *const u8, length: usize, buffer: *mut u8, size: usize) -> FormulaJudgement;
+
+    pub fn kb_groups(file: *const u8, length: usize) -> GroupList;
+    pub fn kb_group(file: *const u8, length: usize, group: u64, buffer: *mut u8, size: usize) -> Written;
 }
 
 /// A struct that begins with an [`Answer`].
@@ -182,7 +193,7 @@ macro_rules! replies {
         }
     )*};
 }
-replies!(Reading Found Written Opened Judgement Marks Ruled Checked Looked Values Searched FormulaJudgement);
+replies!(Reading Found Written Opened Judgement Marks Ruled Checked Looked Values Searched FormulaJudgement GroupList);
 
 /// The reply, where the call finished. Any kind but 0 is a refusal, and 2 one with a place.
 pub fn finished<T: Reply>(reply: T) -> Result<T, Refusal> {

@@ -1,5 +1,5 @@
 //! Safe functions over the proved solver's C entries (`include/kickballbox.h`): files of quantified constraint problems read, looked
-//! up, written, played, judged, marked, and written as quantified boolean formulas.
+//! up, written, played, judged, marked, written as quantified boolean formulas, and split into the groups of variables that hang together.
 //!
 //! Every function is total: any bytes, any position, any rule set. What is turned away is a [`Refusal`], and a refused call writes
 //! nothing. Every call reads its file first and refuses it by itself, so a [`File`] may be any bytes. Give a call [`STACK`] bytes of
@@ -28,6 +28,9 @@
 //!
 //! // Boolean 1 is the first variable's value; 2 and 3 say that the second has the value 0, and 1.
 //! assert_eq!(file.formula_text()?, "p cnf 3 3\na 1 0\ne 2 3 0\n2 3 0\n1 -2 0\n-1 -3 0\n");
+//!
+//! // The constraint joins the two, so that they are one group, and its file is the whole.
+//! assert_eq!((file.groups()?.count, file.group_file(0)?), (1, bytes.clone()));
 //! # Ok::<(), kickballbox::Refusal>(())
 //! ```
 #![warn(missing_docs)]
@@ -37,6 +40,7 @@ compile_error!("libhost.a is for x86-64 Linux");
 
 mod entries;
 mod file;
+mod groups;
 mod interface;
 mod judging;
 mod position;
@@ -52,12 +56,12 @@ pub use interface::{check_interface, OtherInterface};
 pub use position::Position;
 pub use problem::Problem;
 pub use refusal::{Reason, Refusal};
-pub use replies::{JudgedFormula, LosingValue, Marks, OpenValues, Reading, Replayed, Searched};
+pub use replies::{Groups, JudgedFormula, LosingValue, Marks, OpenValues, Reading, Replayed, Searched};
 pub use rule_set::RuleSet;
 pub use session::Session;
 
 /// The interface that this wrapper is written for: `KB_INTERFACE` of the header.
-pub const INTERFACE: u64 = 3;
+pub const INTERFACE: u64 = 4;
 /// The stack to give a call, in bytes: `KB_STACK` of the header.
 pub const STACK: usize = 131072;
 /// The stack to give [`File::judge_formula`], in bytes: `KB_FORMULA_STACK` of the header.

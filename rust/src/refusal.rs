@@ -25,7 +25,7 @@ pub enum Reason {
     Tail,
     /// 10: a value that is not in the domain concerned.
     Option,
-    /// 11: a variable that the file does not have; in a look-up also a pair that is not in order.
+    /// 11: a variable or a group that the file does not have; in a look-up also a pair that is not in order.
     Choice,
     /// 12: room or a buffer that is too short.
     Room,
@@ -55,7 +55,7 @@ const LIST: [(u64, Reason, &str); 17] = [
     (8, Reason::Rules, "a rule set is above 127"),
     (9, Reason::Tail, "bytes stand behind the end"),
     (10, Reason::Option, "the value is not in the domain"),
-    (11, Reason::Choice, "there is no such variable or pair"),
+    (11, Reason::Choice, "there is no such variable, pair or group"),
     (12, Reason::Room, "the room or buffer is too short"),
     (13, Reason::List, "the list does not fit"),
     (20, Reason::Full, "all variables are played"),

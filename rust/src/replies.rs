@@ -70,6 +70,15 @@ pub struct JudgedFormula {
     pub length: usize,
 }
 
+/// The groups of variables that hang together, numbered from 0 by their smallest variable.
+#[derive(Clone, Copy, Debug, PartialEq, Eq)]
+pub struct Groups {
+    /// How many there are, 1 to n.
+    pub count: usize,
+    /// The group of each variable; zero from n on.
+    pub group: [u8; 32],
+}
+
 /// What marking and the open values reply at the position that a list of calls reaches.
 #[derive(Clone, Copy, Debug, PartialEq, Eq)]
 pub struct Replayed {

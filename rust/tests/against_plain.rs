@@ -29,7 +29,7 @@ fn compare_bytes(tally: &mut Tally, bytes: &[u8]) -> bool {
     let expected = plain::read(bytes).map(|p| plain::reading(&p));
     tally.compare(File::new(bytes).read(), expected);
     if let Err(refusal) = expected {
-        tally.compare(refusals::by_every_call(bytes), vec![Some(refusal); 22]);
+        tally.compare(refusals::by_every_call(bytes), vec![Some(refusal); 24]);
     }
     expected.is_ok()
 }
@@ -331,7 +331,7 @@ fn stack_as_stated() {
             (file.judge(&at, RuleSet::ALL)?, file.mark(&at, RuleSet::ALL)?, file.search(&at, RuleSet::ALL)?),
             (file.judge_in(&at, RuleSet::ALL, &mut room)?, file.mark_in(&at, RuleSet::ALL, &mut room)?),
             (file.replay(&[255; 9], RuleSet::ALL), file.open_values(&at)?, file.take_back(&at).err()),
-            (shown, lost, list, buffer[..length].to_vec(), file.formula_text()?),
+            (shown, lost, list, buffer[..length].to_vec(), file.formula_text()?, file.groups()?, file.group_file(0)?),
         ))
     };
     let here = calls(&bytes);

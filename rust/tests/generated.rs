@@ -8,7 +8,8 @@ use kickballbox::{File, Position, Reason, RuleSet};
 /// Problems, each from its start and from two positions further on.
 const PROBLEMS: u64 = 2048;
 
-fn generated(random: &mut Random) -> Problem {
+/// A problem of up to six variables.
+pub fn generated(random: &mut Random) -> Problem {
     let kind = Kind {
         n: (1 + random.below(12)).min(6),
         values: 5,

@@ -13,6 +13,7 @@ mod calls;
 mod formulas;
 mod games;
 mod generated;
+mod groups;
 mod histories;
 mod look_ups;
 mod reading;

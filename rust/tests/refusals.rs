@@ -31,6 +31,8 @@ pub fn by_every_call(bytes: &[u8]) -> Vec<Option<Refusal>> {
         file.interchangeable(&list, 99).err(),
         refusal(lent::with_buffer(9, &[], |buffer| file.formula(buffer))),
         refusal(lent::with_buffer(9, &[], |buffer| file.judge_formula(buffer))),
+        file.groups().err(),
+        refusal(lent::with_buffer(9, &[], |buffer| file.group(99, buffer))),
     ]);
     refusals
 }

@@ -80,6 +80,12 @@ unfolding joined
 joined_none g zero h = refl
 joined_none g (suc k) h = rw (h k (omega arith), joined_none g k (λ i l. h i (omega arith)))
 
+-- One from each.
+pub one_each : {A : Type 0} (g : ℕ → A) (k : ℕ) → length (joined (λ i. g i ∷ []) k) ≡ k
+unfolding joined
+one_each g zero = refl
+one_each g (suc k) = let r = one_each g k in omega (arith, length-append (joined (λ i. g i ∷ []) k) (g k ∷ []))
+
 -- The first j, then the others.
 pub joined_split : {A : Type 0} (g : ℕ → List A) (j k : ℕ) → joined g (j + k) ≡ joined g j ++ joined (λ i. g (j + i)) k
 unfolding joined

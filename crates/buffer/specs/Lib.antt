@@ -6,3 +6,5 @@ pub mod Stored
 pub mod Decimal
 -- A text that was put.
 pub mod Put
+-- Bytes that a buffer may be too short for.
+pub mod Fitting

@@ -1,11 +1,11 @@
 -- Laws of a problem's numbers: what the tests say, and what makes them hold. The reader and the writer share them.
 use Prim.Native.Nat.{ℕ, ◌-◌, ◌*◌, ◌/◌, ◌≤◌, ◌<◌}
-use mathlib.Core.Path.{◌≡◌, ap}
+use mathlib.Core.Path.{◌≡◌, ap, ◌∙◌}
 use mathlib.Core.Bool.{Bool, true}
 use native.Mathlib.Nat.{mul-le-mul}
 use native.Mathlib.Omega.{arith}
 use lib.Dec.{T, ltb}
-use borrow.Author.Tests.{leb-true, ltb-true, le-leb, lt-ltb}
+use borrow.Author.Tests.{leb-true, ltb-true, le-leb, le-ltb, lt-ltb}
 use Rattle.mask.proofs.Logic.{holds, true_holds}
 use Rattle.mask.proofs.Range.{each_out, each_in, each_eq}
 use Rattle.refusal.specs.declared.reason.Reason.TheVariants.{Order, Stray}
@@ -44,6 +44,15 @@ order_out i j n q = let a = both_true _ _ q in (ltb-true _ _ a.0, ltb-true _ _ a
 pub order_in : (i j n : ℕ) → i < j → j < n → in_order i j n ≡ true
 unfolding in_order
 order_in i j n h l = both_ok _ _ (lt-ltb _ _ h) (lt-ltb _ _ l)
+
+-- Two variables in order, and not.
+pub in_order_then : (i j n : ℕ) {b : Bool} → i < j → b ≡ ltb j n → b ≡ in_order i j n
+unfolding in_order
+in_order_then i j n h e = rw (lt-ltb i j h) e
+
+pub in_order_else : (i j n : ℕ) {b : Bool} → j ≤ i → b ≡ ltb i j → b ≡ in_order i j n
+unfolding in_order
+in_order_else i j n h e = rw (le-ltb i j h) (e ∙ le-ltb i j h)
 
 -- One constraint's numbers.
 pub record Fits (domain : ℕ → ℕ) (n last i j : ℕ) (row : ℕ → ℕ) : Type 0 where

@@ -42,9 +42,9 @@ start-shown f = go (has_rules f)
     go true = refl
     go false = refl
 
-rules-shown : (f : List ℕ) → Accepted f → rules_fit (rules_of f) ≡ true
+pub rules_shown : (f : List ℕ) → Accepted f → rules_fit (rules_of f) ≡ true
 unfolding rules_fit rules_of
-rules-shown f a = go (has_rules f) refl
+rules_shown f a = go (has_rules f) refl
   where
     go : (d : Bool) → has_rules f ≡ d → rules_fit (cond d (Some (byte f 7)) None) ≡ true
     go true e = (a.rules e).1
@@ -80,7 +80,7 @@ module _ (f : List ℕ) (fine : verdict_of f ≡ Fine) where
         counts = a.head.counts;
         domains_long = length-take (n_of f) (domains_of f) ∙ omega arith;
         constraints_long = ap length (shown_all f fine) ∙ length_numbers f (m_of f);
-        rules-low = rules-shown f a;
+        rules-low = rules_shown f a;
         bits = mask_of_lt (n_of f) (universal_at f (variables_at f));
         some = λ i l e. domain-some f fine i l (sym (get_or-take (n_of f) (domains_of f) i 0 l) ∙ e);
         fits = λ t l.

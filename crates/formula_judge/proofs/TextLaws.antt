@@ -10,11 +10,10 @@ use lib.Dec.{T}
 use lib.ListN.{get_or, length, replicate}
 use Rattle.mask.proofs.Logic.{fails, clash, by_eq, and_in, and_out}
 use Rattle.buffer.specs.Stored.{joined}
-use Rattle.buffer.proofs.StoredLaws.{joined_same}
+use Rattle.buffer.proofs.StoredLaws.{joined_same, one_each}
 use Rattle.formula.specs.Formula.{Literal, judged, judge_formula}
 use Rattle.formula.specs.Text.{number_at, after, literals_at, blocks_at, blocks_end, clauses_at, read_text}
 use Rattle.formula.specs.Ordered.{ascending, all_ascend}
-use Rattle.formula_theory.proofs.JoinedLaws.{one_each}
 use Rattle.formula_index.specs.Chains.{last_from, before, place_of, last_of, start_to, next_to, head_to}
 use Rattle.formula_index.specs.Marked.{marked, ranked}
 use Rattle.formula_index.specs.declared.reading.Number.{Number}

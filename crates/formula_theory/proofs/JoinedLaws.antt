@@ -22,12 +22,6 @@ joined_has g (suc k) i h l =
     by_eq i k (λ e. let l' : 0 < length (g k) = rw e at l in omega (arith, length-append (joined g k) (g k)))
     (λ e. let r = joined_has g k i (omega arith) l in omega (arith, length-append (joined g k) (g k)))
 
--- One from each.
-pub one_each : {A : Type 0} (g : ℕ → A) (k : ℕ) → length (joined (λ i. g i ∷ []) k) ≡ k
-unfolding joined
-one_each g zero = refl
-one_each g (suc k) = let r = one_each g k in omega (arith, length-append (joined (λ i. g i ∷ []) k) (g k ∷ []))
-
 -- Under a test.
 pub if_most : {A : Type 0} (b : Bool) (xs : List A) (w : ℕ) → length xs ≤ w → length (only_if b xs) ≤ w
 unfolding only_if

@@ -8,10 +8,11 @@ use lib.ListN.{length, length-append}
 use Rattle.mask.specs.Mask.{bit}
 use Rattle.game.specs.Problem.{Problem}
 use Rattle.buffer.specs.Stored.{joined}
+use Rattle.buffer.proofs.StoredLaws.{one_each}
 use Rattle.formula.specs.Formula.{Literal, Quantified, only_if}
 use Rattle.formula.specs.Encoding.{run, size, width, base, boolean_of, ways, denial, at_least_one, existential_clauses, pair_clauses, closes, fresh, closing_clauses, prefix_from, formula_of}
 use Rattle.formula.specs.Text.{read_text, text_of}
-use Rattle.formula_theory.proofs.JoinedLaws.{joined_has, one_each}
+use Rattle.formula_theory.proofs.JoinedLaws.{joined_has}
 use Rattle.formula_theory.proofs.Widths.{width_existential, width_some, ways_existential, base-before, base_suc, base_all}
 use Rattle.formula_theory.proofs.Forms.{Forms, all_forms}
 use Rattle.formula_theory.proofs.PrefixLaws.{booleans_all, booleans_most, base-some}

@@ -1,7 +1,8 @@
 // The judging program's text in a buffer of any length.
 ghost use Rattle.std.specs.Prelude.{◌≡◌, ◌≤◌, length};
 ghost use Rattle.file_writer.specs.Writing.{told};
-ghost use Rattle.host.specs.Text.{fit_told, fit_left, text_told, text_left};
+ghost use Rattle.buffer.specs.Fitting.{fit_told, fit_left};
+ghost use Rattle.host.specs.Text.{text_told, text_left};
 
 use buffer::Text;
 use refusal::{Reason, needed};

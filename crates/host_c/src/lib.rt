@@ -7,6 +7,7 @@ ghost use Rattle.file_lookup.specs.Lookup.{look_up};
 ghost use Rattle.file_bytes.specs.Bytes.{handed};
 ghost use Rattle.file_writer.specs.Writing.{write_told, write_buffer};
 ghost use Rattle.formula_entries.specs.Told.{formula_told, formula_left, judge_formula_told};
+ghost use Rattle.group_entries.specs.Told.{groups_told, groups_listed, write_group_told, write_group_left};
 ghost use Rattle.rule_entries.specs.Alone.{arc_told, arc_left, forward_told, forward_left, ahead_told, pure_told, interchangeable_told};
 ghost use Rattle.session.specs.Told.{play_told, play_left, take_back_told, take_back_left, open_told, masks_shown, counts_shown};
 ghost use Rattle.search_run.specs.Run.{held_room};
@@ -14,14 +15,14 @@ ghost use Rattle.judging.specs.Judging.{judge_told, judge_left};
 ghost use Rattle.judging.specs.Searching.{search_found};
 ghost use Rattle.marking.specs.Marking.{mark_told, mark_left};
 ghost use Rattle.host_replies.specs.Replies.{read_file_of, found_of, written_of, answer_of, moved_of, opened_of, judgement_of, marks_of};
-ghost use Rattle.host_replies.specs.Replies.{searched_of, ruled_of, checked_of, looked_of, values_of, formula_judgement_of};
+ghost use Rattle.host_replies.specs.Replies.{searched_of, ruled_of, checked_of, looked_of, values_of, formula_judgement_of, group_list_of};
 ghost use Rattle.host.specs.Unpack.{unpack};
 ghost use Rattle.host.specs.Handed.{set_handed};
 ghost use Rattle.host.specs.Text.{text_told, text_left};
 ghost use Rattle.host.specs.Replayed.{replay_of};
 
 use host_replies::{
-    CallAnswer, CheckedList, FormulaJudgement, FoundRows, Judgement, LookedAhead, Marks,
+    CallAnswer, CheckedList, FormulaJudgement, FoundRows, GroupList, Judgement, LookedAhead, Marks,
     MovedPosition, OpenMasks, ReadFile, ReplayedCalls, RuledList, SearchFindings, ValueMask,
     WrittenBytes,
 };
@@ -29,7 +30,7 @@ use position::Position;
 
 #[unsafe(no_mangle)]
 pub extern "C" fn kb_interface() -> u64
-    ensures { result ≡ 3 }
+    ensures { result ≡ 4 }
 {
     host::kb_interface()
 }
@@ -217,4 +218,21 @@ pub extern "C" fn kb_judge_formula(f: &[u8], buf: &mut [u8]) -> FormulaJudgement
     ensures buf_after { buf.new ≡ formula_left f.now buf.old }
 {
     host::kb_judge_formula(f, buf)
+}
+
+// Lists the groups of variables that hang together.
+#[unsafe(no_mangle)]
+pub extern "C" fn kb_groups(f: &[u8]) -> GroupList
+    ensures { result ≡ group_list_of (groups_told f.now) (groups_listed f.now) }
+{
+    host::kb_groups(f)
+}
+
+// Writes one group as a problem file.
+#[unsafe(no_mangle)]
+pub extern "C" fn kb_group(f: &[u8], group: u64, buf: &mut [u8]) -> WrittenBytes
+    ensures value { result ≡ written_of (write_group_told f.now group (length buf.old)) }
+    ensures buf_after { buf.new ≡ write_group_left f.now group buf.old }
+{
+    host::kb_group(f, group, buf)
 }

@@ -16,6 +16,7 @@ use Rattle.host_replies.specs.declared.games.Judgement.{Judgement}
 use Rattle.host_replies.specs.declared.games.Marks.{Marks}
 use Rattle.host_replies.specs.declared.games.ReplayedCalls.{ReplayedCalls}
 use Rattle.host_replies.specs.declared.games.SearchFindings.{SearchFindings}
+use Rattle.host_replies.specs.declared.groups.GroupList.{GroupList}
 use Rattle.host_replies.specs.declared.arcs.RuledList.{RuledList}
 use Rattle.host_replies.specs.declared.checks.CheckedList.{CheckedList}
 use Rattle.host_replies.specs.declared.looks.LookedAhead.{LookedAhead}
@@ -67,6 +68,9 @@ written_of t = record { kind = kind_of t; number = number_of t; place = place_of
 
 unfoldable pub formula_judgement_of : Told → FormulaJudgement
 formula_judgement_of t = record { kind = kind_of t; number = number_of t; place = place_of t; won = value_of t 0; length = value_of t 1 }
+
+unfoldable pub group_list_of : Told → List ℕ → GroupList
+group_list_of t group = record { kind = kind_of t; number = number_of t; place = place_of t; count = value_of t 0; group = group }
 
 unfoldable pub answer_of : Told → CallAnswer
 answer_of t = record { kind = kind_of t; number = number_of t; place = place_of t }

@@ -9,6 +9,7 @@ mod checks;
 mod files;
 mod formula_judgements;
 mod games;
+mod groups;
 mod looks;
 mod values;
 
@@ -18,5 +19,6 @@ pub use checks::CheckedList;
 pub use files::{FoundRows, ReadFile, WrittenBytes};
 pub use formula_judgements::FormulaJudgement;
 pub use games::{Judgement, Marks, ReplayedCalls, SearchFindings};
+pub use groups::GroupList;
 pub use looks::LookedAhead;
 pub use values::ValueMask;

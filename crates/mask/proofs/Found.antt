@@ -1,6 +1,6 @@
 -- Searches for the first that passes: what `find` over the members of a mask finds, and masks cut to the numbers below n.
 use mathlib.Core.Path.{◌≡◌, sym, ap, subst, ◌∙◌}
-use mathlib.Core.Bool.{Bool, false, ◌&&◌}
+use mathlib.Core.Bool.{Bool, false, ◌&&◌, and-true}
 use Prim.Native.Nat.{ℕ, suc, ◌-◌, ◌^◌, ◌≤◌, ◌<◌}
 use native.Mathlib.Omega.{arith}
 use lib.Dec.{T, ltb}
@@ -13,10 +13,11 @@ use Rattle.std.specs.Prelude.{Option, None, Some}
 use Rattle.std.specs.Option.{unwrap_or}
 use Rattle.std.specs.Iterator.{FindsItem}
 use Rattle.mask.specs.Range.{first}
-use Rattle.mask.specs.Mask.{bit}
+use Rattle.mask.specs.Mask.{bit, mask_of}
 use Rattle.mask.proofs.Logic.{clash, by_lt}
 use Rattle.mask.proofs.Range.{first_of, first_most}
-use Rattle.mask.proofs.Bits.{bit_ext, bit_high}
+use Rattle.mask.proofs.Bits.{bit_ext, bit_high, bit-bit_and}
+use Rattle.mask.proofs.Masks.{mask_of_lt, bit-mask_of}
 use Rattle.mask.proofs.Members.{bit-ones, ones_lt}
 use Rattle.mask.proofs.Chains.{Steps, TestsAt, find_members}
 use Rattle.mask.specs.Found.{found}
@@ -54,3 +55,9 @@ pub cut_fits : (n m e : ℕ) → n ≤ 32 → e < 2 ^ 32 → ((k : ℕ) → bit 
 cut_fits n m e b h f =
     let q : e ≡ 2 ^ n - 1 = bit_ext 32 e (2 ^ n - 1) h (ones_lt 32 n b) (λ k _. f k ∙ sym (bit-ones n k)) in
     let l = and_le_r m e in let p = pow_pos n in omega arith
+
+-- A mask cut to the numbers below n is the mask of its own test.
+pub cut_is : (n m e : ℕ) → n ≤ 32 → e < 2 ^ 32 → ((k : ℕ) → bit e k ≡ ltb k n) → bit_and m e ≡ mask_of n (bit m)
+cut_is n m e h l f =
+    bit_ext n (bit_and m e) (mask_of n (bit m)) (cut_fits n m e h l f) (mask_of_lt n (bit m))
+    λ k b. bit-bit_and m e k ∙ ap (λ x. bit m k && x) (f k ∙ lt-ltb k n b) ∙ and-true (bit m k) ∙ sym (bit-mask_of n (bit m) k b)

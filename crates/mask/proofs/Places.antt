@@ -1,11 +1,13 @@
 -- Numbers that pass a test, by how many pass below them: their places in ascending order.
 use mathlib.Core.Path.{◌≡◌, sym}
-use mathlib.Core.Bool.{Bool, true, false}
+use mathlib.Core.Bool.{Bool, true, false, ◌&&◌}
 use Prim.Native.Nat.{ℕ, zero, suc, ◌-◌, ◌≤◌, ◌<◌}
 use native.Mathlib.Omega.{arith}
-use lib.Dec.{T}
-use Rattle.mask.specs.Range.{count}
-use Rattle.mask.proofs.Logic.{holds, test, by_eq, by_lt}
+use lib.Dec.{T, eqb, eqb→eq}
+use borrow.Author.Tests.{eq-eqb}
+use Rattle.mask.specs.Range.{count, first}
+use Rattle.mask.proofs.Logic.{holds, true_holds, test, by_eq, by_lt, and_in, and_out}
+use Rattle.mask.proofs.Range.{first_in}
 
 -- One more where the next passes, no more where it does not.
 pub count_in : (v : ℕ) (p : ℕ → Bool) → T (p v) → count (suc v) p ≡ suc (count v p)
@@ -32,11 +34,24 @@ at_place (suc v) p k h = test (p v) (λ t. by_eq k (count v p) (λ e. (v, omega 
     more : (a : ℕ) × (a < v) × T (p a) × (count a p ≡ k) → (a : ℕ) × (a < suc v) × T (p a) × (count a p ≡ k)
     more r = (r.0, omega (arith, r.1), r.2, r.3)
 
+-- It is found by its place.
+pub found_at_place : (v : ℕ) (p : ℕ → Bool) (k : ℕ) → k < count v p → let a = first v (λ a. p a && eqb (count a p) k) in (a < v) × T (p a && eqb (count a p) k)
+found_at_place v p k h =
+    let r = at_place v p k h in
+    first_in v (λ a. p a && eqb (count a p) k) r.0 r.1 (and_in (p r.0) (eqb (count r.0 p) k) r.2 (true_holds (eq-eqb (count r.0 p) k r.3)))
+
 -- Numbers that pass and have the same place are the same.
 pub place_same : (p : ℕ → Bool) (a b : ℕ) → T (p a) → T (p b) → count a p ≡ count b p → a ≡ b
 place_same p a b t u e =
     by_lt a b (λ h. absurd (omega (arith, place-below b p a h t)))
     λ h. by_lt b a (λ g. absurd (omega (arith, place-below a p b g u))) (λ g. omega arith)
+
+-- A number that passes is the one at its own place.
+pub own_place : (n : ℕ) (p : ℕ → Bool) (i : ℕ) → i < n → T (p i) → first n (λ a. p a && eqb (count a p) (count i p)) ≡ i
+own_place n p i h t =
+    let a = first n (λ a. p a && eqb (count a p) (count i p)) in
+    let q = and_out (p a) (eqb (count a p) (count i p)) (found_at_place n p (count i p) (place-below n p i h t)).1 in
+    place_same p a i q.0 t (eqb→eq (count a p) (count i p) q.1)
 
 -- No more than one passes where any two that do are the same.
 pub count-one : (v : ℕ) (p : ℕ → Bool) → ((a b : ℕ) → T (p a) → T (p b) → a ≡ b) → count v p ≤ 1

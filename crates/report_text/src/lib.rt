@@ -1,6 +1,6 @@
 // What the judging program prints, formed in a buffer (document 01, "G1 in hex"). It rests on `buffer` and `refusal`. `render_reply` is
-// for `reporting`, `render_refusal` for `to_qdimacs` too; they alone require that the text fits: proofs/TextLaws.antt says how long it is
-// at most.
+// for `reporting`, `render_refusal` for `standard_output` too, `put_line` for `group_text`. The first two alone require that the text fits:
+// proofs/TextLaws.antt says how long it is at most.
 #![tactic(auto)]
 
 ghost use Rattle.std.specs.Prelude.{◌≡◌, ◌++◌, ◌≤◌, length, drop};
@@ -9,6 +9,7 @@ ghost use Rattle.report_text.specs.Text.{text_of, fault_text};
 mod lines;
 
 use buffer::Text;
+pub use lines::put_line;
 use lines::{put_answer, put_head, put_next, put_options};
 use refusal::Fault;
 

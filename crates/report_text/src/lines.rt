@@ -6,7 +6,8 @@ ghost use Rattle.report_text.specs.Text.{number_line, answer_line, next_line, op
 use buffer::Text;
 use mask::{contains, members_of};
 
-fn put_line(t: &mut Text, label: &[u8], x: usize)
+// A line of a label and a number.
+pub fn put_line(t: &mut Text, label: &[u8], x: usize)
     ensures { Put t.old (number_line label.now x) t.new }
 {
     t.put(label);

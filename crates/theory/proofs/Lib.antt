@@ -43,6 +43,8 @@ pub mod TurnLists
 pub mod Narrowings
 -- Positions by calls, verdicts, winning values, open values.
 pub mod Standing
+-- Problems whose games are the same.
+pub mod SameGame
 -- Open values are what rule 2 leaves of a position's list.
 pub mod OpenChecks
 -- Rules that are switched off.

@@ -34,6 +34,7 @@ use Rattle.game.specs.Reasons.{Sheet, idle, chain, choose, explain_checks, arc_c
 use Rattle.game.specs.Search.{Ending, solved, failed, is_solved, handed, hand_up, first_broken, check_set, skippable, narrow_next, search, search_from, marked_values}
 use Rattle.game.specs.Turns.{TurnOf, first as from-position, turn_below}
 use Rattle.game.specs.Skipping.{skipping_turn}
+use Rattle.theory.specs.SameGame.{SameGame}
 use Rattle.theory.specs.TurnList.{AtTurn}
 use Rattle.theory.specs.OtherSets.{Others}
 use Rattle.theory.specs.AnyOrder.{Revisions}
@@ -53,6 +54,7 @@ use Rattle.theory.proofs.Named
 use Rattle.theory.proofs.OpenChecks
 use Rattle.theory.proofs.LastChecks
 use Rattle.theory.proofs.SameLeaf
+use Rattle.theory.proofs.SameGame
 
 module _ (P : Problem) where
   open P use {n, domain, universal, compatible}
@@ -93,6 +95,11 @@ module _ (P : Problem) where
   wins_monotone l m u e t =
       rw (Lists.over-start P m) (Transfer.monotone n universal (satisfied compatible n) (domains l) (domains m) 0 (λ j _ _ s a k. u j a s k.1) (λ j _ _ s a k. e j a s k.1) (λ j. 0) (omega arith)
       (rw (Lists.over-start P l) at t))
+
+  -- Only what lies inside the domains counts: a problem with the same variables, sides and domains, and the same values that go together
+  -- within these, has the same verdict.
+  pub verdict_same : (Q : Problem) → SameGame P Q → (p : List ℕ) → T (legal P p) → verdict P p ≡ verdict Q p
+  verdict_same Q g p t = SameGame.same_verdict P Q g p t
 
   -- THE RULES ALONE, on a list that may be lent -------------------------------------------------------------------------------
   module _ (l : List ℕ) (may : T (may_lend P l)) where

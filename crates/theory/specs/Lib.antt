@@ -6,3 +6,5 @@ pub mod TurnList
 pub mod OtherSets
 -- Rule 1's removals with reasons, in any order ("Dead options are removed until none is left", with the set that rule 6 wants of a loss).
 pub mod AnyOrder
+-- Problems whose games are the same: alike inside their domains.
+pub mod SameGame

@@ -4,31 +4,19 @@
 #![tactic(auto)]
 
 use formula_entries::write_formula;
-use refusal::{Fault, Refusal};
-use report_text::render_refusal;
+use refusal::Refusal;
 use standard_input::{INPUT, read_full, zeros};
+use standard_output::{write_front, write_refusal};
 use std::io;
-use std::io::{Input, Write};
+use std::io::{Input, Print};
 
 // The longest text there is, computed by bench/formula/longest.py.
 const TEXT: usize = 4131214;
-
-// Writes the first k bytes, if there are so many.
-fn write_front(rt: &impl Print, text: &[u8], k: usize) -> io::Result<()> {
-    io::writer(rt).write_all(text.get(..k).unwrap_or(&[]))
-}
 
 // The first k bytes of the text. `main` lends its long array whole, here and to `formula_of`: the check would compute a slice of it that is
 // made where the array is (docs/PROVING.md).
 fn write_text(rt: &impl Print, text: &[u8; TEXT], k: usize) -> io::Result<()> {
     write_front(rt, text, k)
-}
-
-// The line of a refused file.
-fn write_refusal(rt: &impl Print, fault: Fault) -> io::Result<()> {
-    let mut line = [0u8; 64];
-    let k = render_refusal(fault, &mut line);
-    write_front(rt, &line, k)
 }
 
 // The text of the file's formula, put into the long array.
@@ -42,7 +30,6 @@ fn main(rt: HostRuntime) -> io::Result<()> {
     let mut text = [0u8; TEXT];
     match formula_of(&input[..n], &mut text) {
         Ok(k) => write_text(&rt, &text, k),
-        Err(Refusal::InCall(_)) => io::writer(&rt).write_all(b"refused 12\n"),
-        Err(Refusal::InFile(fault)) => write_refusal(&rt, fault),
+        Err(refusal) => write_refusal(&rt, refusal),
     }
 }

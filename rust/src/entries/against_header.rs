@@ -55,7 +55,7 @@ macro_rules! layout {
 #[test]
 fn structs_as_declared() {
     let header = structs(&code());
-    let ours: [(&str, Layout); 16] = [
+    let ours: [(&str, Layout); 17] = [
         ("kb_position", layout!(Position: plays, values)),
         ("kb_reading", layout!(Reading: answer.kind, answer.number, answer.place, n, m, universal, given, rules, domains)),
         ("kb_found", layout!(Found: answer.kind, answer.number, answer.place, found, rows)),
@@ -72,6 +72,7 @@ fn structs_as_declared() {
         ("kb_values", layout!(Values: answer.kind, answer.number, answer.place, values)),
         ("kb_searched", layout!(Searched: answer.kind, answer.number, answer.place, won, loss, conflict, list, leaf)),
         ("kb_formula_judgement", layout!(FormulaJudgement: answer.kind, answer.number, answer.place, won, length)),
+        ("kb_group_list", layout!(GroupList: answer.kind, answer.number, answer.place, count, group)),
     ];
     for (name, layout) in &ours {
         assert_eq!(header[*name], *layout, "{name}");
@@ -130,7 +131,7 @@ fn our_functions() -> Vec<String> {
 #[test]
 fn functions_as_declared() {
     let header = header_functions(&code());
-    assert_eq!(header.len(), 23);
+    assert_eq!(header.len(), 25);
     assert_eq!(header, our_functions());
 }
 

@@ -47,6 +47,8 @@ fn empty_file_with_any_pointer() {
             assert_eq!(kb_interchangeable(file, 0, words, 3, 9), Values { answer, values: 0 });
             assert_eq!(kb_formula(file, 0, bytes, 3), Written { answer, length: 0 });
             assert_eq!(kb_judge_formula(file, 0, bytes, 3), FormulaJudgement { answer, ..Default::default() });
+            assert_eq!(kb_groups(file, 0), GroupList { answer, ..Default::default() });
+            assert_eq!(kb_group(file, 0, 99, bytes, 3), Written { answer, length: 0 });
         }
         assert_eq!((list, room, buffer), ([0; 3], [9; 3], [7; 3]));
     }
@@ -90,6 +92,8 @@ fn refused_calls_with_any_pointer() {
             assert_eq!(kb_formula(file, length, bytes, 0), Written { answer: refused(1, 12), length: 0 });
             let judged = FormulaJudgement { answer: refused(1, 12), ..Default::default() };
             assert_eq!(kb_judge_formula(file, length, bytes, 0), judged);
+            assert_eq!(kb_group(file, length, 1, bytes, 0), Written { answer: refused(1, 11), length: 0 });
+            assert_eq!(kb_group(file, length, 0, bytes, 0), Written { answer: refused(1, 12), length: 0 });
             let written = |n, domains, count| kb_write(bytes, 0, n, 0, 0, 0, 0, domains, count, null(), 0);
             assert_eq!(written(0, null(), 0), Written { answer: refused(1, 3), length: 0 });
             assert_eq!(written(1, null(), 0), Written { answer: refused(1, 13), length: 0 });

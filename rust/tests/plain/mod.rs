@@ -1,10 +1,11 @@
 //! A plain reading of document 01, written without the solver's sources: a reader that goes through the records one after another and
 //! a writer, here; the game by its definition (`game`), the calls on a position (`calls`), the rules (`rules`), the printed text (`text`),
-//! the problem as a boolean formula (`qdimacs`), and a generator of problems (`generator`).
+//! the problem as a boolean formula (`qdimacs`), its groups (`groups`), and a generator of problems (`generator`).
 
 mod calls;
 mod game;
 mod generator;
+pub mod groups;
 pub mod qdimacs;
 mod rules;
 mod text;

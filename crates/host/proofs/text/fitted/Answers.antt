@@ -8,7 +8,7 @@ use Rattle.std.specs.Prelude.{Err}
 use Rattle.refusal.proofs.RepliedLaws.{reply_refused, reply_told, list_refused, list_left}
 use Rattle.buffer.proofs.PutLaws.{put-stored}
 use Rattle.file_writer.specs.Writing.{told}
-use Rattle.host.specs.Text.{fit_test, fit_told, fit_left}
+use Rattle.buffer.specs.Fitting.{fit_test, fit_told, fit_left}
 use Rattle.host.proofs.text.fitted.Goals as goal
 
 pub returns-in_err-needed : goal.returns-in_err-needed

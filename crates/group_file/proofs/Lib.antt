@@ -1,0 +1,2 @@
+-- The number that digits spell, digit by digit.
+pub mod NumberLaws

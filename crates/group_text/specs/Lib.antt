@@ -1,0 +1,4 @@
+-- What the program `groups` prints.
+
+-- "List the groups".
+pub mod Text

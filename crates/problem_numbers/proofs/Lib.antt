@@ -1,0 +1,2 @@
+-- Two variables are tied either way round.
+pub mod TieLaws
