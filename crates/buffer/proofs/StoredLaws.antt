@@ -3,8 +3,8 @@ use Prim.Native.Nat.{ℕ, zero, suc, ◌+◌, ◌*◌, ◌≤◌, ◌<◌}
 use mathlib.Core.Path.{◌≡◌, refl, sym, ap, ap₂, ◌∙◌}
 use mathlib.Core.Bool.{Bool, true, false, not, ◌&&◌, and-true, and-false}
 use mathlib.Core.List.{List, [], ◌∷◌, ◌++◌, append-nil, append_assoc}
-use lib.ListN.{length, set, drop, length-append}
-use lib.Seq.{sets, length-sets, sets-eq}
+use lib.ListN.{length, get_or, set, drop, length-append, get_or-append}
+use lib.Seq.{sets, length-sets, sets-eq, get_or-append-add}
 use native.Mathlib.Nat.{zero-add, add-zero, add-suc, suc-add, mul-zero, mul-suc}
 use native.Mathlib.Omega.{arith}
 use lib.Dec.{eqb}
@@ -85,6 +85,17 @@ pub one_each : {A : Type 0} (g : ℕ → A) (k : ℕ) → length (joined (λ i. 
 unfolding joined
 one_each g zero = refl
 one_each g (suc k) = let r = one_each g k in omega (arith, length-append (joined (λ i. g i ∷ []) k) (g k ∷ []))
+
+-- That of a stands at place a.
+pub one_at : (g : ℕ → ℕ) (k a : ℕ) → a < k → get_or (joined (λ i. g i ∷ []) k) a 0 ≡ g a
+unfolding joined
+one_at g zero a h = absurd (omega arith)
+one_at g (suc k) a h =
+    let l = one_each g k in
+    by_eq a k
+    (λ e. let z : a ≡ length (joined (λ i. g i ∷ []) k) + 0 = omega arith in
+    ap (λ i. get_or (joined (λ i. g i ∷ []) k ++ (g k ∷ [])) i 0) z ∙ get_or-append-add (joined (λ i. g i ∷ []) k) (g k ∷ []) 0 0 ∙ ap g (sym e))
+    (λ e. get_or-append (joined (λ i. g i ∷ []) k) (g k ∷ []) 0 a (omega arith) ∙ one_at g k a (omega arith))
 
 -- The first j, then the others.
 pub joined_split : {A : Type 0} (g : ℕ → List A) (j k : ℕ) → joined g (j + k) ≡ joined g j ++ joined (λ i. g (j + i)) k

@@ -1,13 +1,14 @@
 -- Numbers that pass a test, by how many pass below them: their places in ascending order.
-use mathlib.Core.Path.{◌≡◌, sym}
+use mathlib.Core.Path.{◌≡◌, sym, ap, ◌∙◌}
 use mathlib.Core.Bool.{Bool, true, false, ◌&&◌}
-use Prim.Native.Nat.{ℕ, zero, suc, ◌-◌, ◌≤◌, ◌<◌}
+use Prim.Native.Nat.{ℕ, zero, suc, ◌+◌, ◌-◌, ◌≤◌, ◌<◌}
+use native.Mathlib.Nat.{le_refl}
 use native.Mathlib.Omega.{arith}
 use lib.Dec.{T, eqb, eqb→eq}
 use borrow.Author.Tests.{eq-eqb}
 use Rattle.mask.specs.Range.{count, first}
-use Rattle.mask.proofs.Logic.{holds, true_holds, test, by_eq, by_lt, and_in, and_out}
-use Rattle.mask.proofs.Range.{first_in}
+use Rattle.mask.proofs.Logic.{holds, true_holds, fails, test, by_eq, by_lt, and_in, and_out}
+use Rattle.mask.proofs.Range.{count_none, count_split, first_in}
 
 -- One more where the next passes, no more where it does not.
 pub count_in : (v : ℕ) (p : ℕ → Bool) → T (p v) → count (suc v) p ≡ suc (count v p)
@@ -46,6 +47,10 @@ place_same p a b t u e =
     by_lt a b (λ h. absurd (omega (arith, place-below b p a h t)))
     λ h. by_lt b a (λ g. absurd (omega (arith, place-below a p b g u))) (λ g. omega arith)
 
+-- Of two numbers the one with the higher place is the greater.
+pub place_above : (p : ℕ → Bool) (a b : ℕ) → T (p b) → count a p < count b p → a < b
+place_above p a b t h = by_lt a b (λ l. l) (λ l. by_eq a b (λ e. let z = ap (λ x. count x p) e in absurd (omega arith)) (λ e. absurd (omega (arith, place-below a p b (omega arith) t))))
+
 -- A number that passes is the one at its own place.
 pub own_place : (n : ℕ) (p : ℕ → Bool) (i : ℕ) → i < n → T (p i) → first n (λ a. p a && eqb (count a p) (count i p)) ≡ i
 own_place n p i h t =
@@ -69,3 +74,33 @@ count-above zero i p u = omega arith
 count-above (suc v) i p u =
     let r = count-above v i p u in
     test (p v) (λ t. let l = u v t in omega (arith, count_in v p t)) (λ t. omega (arith, count_out v p t))
+
+-- ---- numbers that ascend and are those that pass: each has its own place
+
+module _ (p : ℕ → Bool) (at : ℕ → ℕ) (m : ℕ) (up : (s t : ℕ) → s < t → t < m → at s < at t) (passes : (t : ℕ) → t < m → T (p (at t)))
+    (only : (z : ℕ) → T (p z) → (t : ℕ) × (t < m) × (at t ≡ z)) where
+  no_less : (s t : ℕ) → s ≤ t → t < m → at s ≤ at t
+  no_less s t h l = by_eq s t (λ e. let z = ap at e in omega arith) (λ e. let g = up s t (omega arith) l in omega arith)
+
+  -- Where the first t numbers lie below z and the others do not, t pass below z.
+  passing : (t : ℕ) → t ≤ m → (z : ℕ) → ((s : ℕ) → s < t → at s < z) → ((s : ℕ) → t ≤ s → s < m → z ≤ at s) → count z p ≡ t
+  passing zero h z low high = count_none z p (λ k l. fails λ u. let r = only k u in let g = high r.0 (omega arith) r.1 in omega (arith, r.2))
+  passing (suc t) h z low high =
+      let y = at t in
+      let l : y < z = low t (omega arith) in
+      let e : suc y + (z - suc y) ≡ z = omega arith in
+      let none : count (z - suc y) (λ k. p (suc y + k)) ≡ 0 =
+      count_none (z - suc y) (λ k. p (suc y + k)) λ k g. fails λ u.
+      let r = only (suc y + k) u in
+      by_lt t r.0 (λ b. let c = high r.0 b r.1 in omega (arith, r.2)) (λ b. let c = no_less r.0 t b (omega arith) in omega (arith, r.2))
+      in
+      let c = count_in y p (passes t (omega arith)) in
+      let i = passing t (omega arith) y (λ s g. up s t g (omega arith)) (λ s g b. no_less t s g b) in
+      ap (λ v. count v p) (sym e) ∙ count_split (suc y) (z - suc y) p ∙ omega (arith, none, c, i)
+
+  -- Number t has place t, and m pass in all.
+  pub place_is : (t : ℕ) → t < m → count (at t) p ≡ t
+  place_is t h = passing t (omega arith) (at t) (λ s g. up s t g h) (λ s g b. no_less t s g b)
+
+  pub all_pass : (z : ℕ) → ((t : ℕ) → t < m → at t < z) → count z p ≡ m
+  all_pass z h = passing m (le_refl m) z h (λ s g b. absurd (omega arith))

@@ -1,8 +1,8 @@
 -- Laws of tests over a range: `each` against a function, `some` against a witness; bounds of `count` and `first`.
 use mathlib.Core.Path.{◌≡◌, refl, sym, ap, ap₂, ◌∙◌}
 use mathlib.Core.Bool.{Bool, true, false, cond, not, ◌&&◌, ◌||◌, and-false, and-true, or-false}
-use Prim.Native.Nat.{ℕ, zero, suc, ◌≤◌, ◌<◌}
-use native.Mathlib.Nat.{le_refl}
+use Prim.Native.Nat.{ℕ, zero, suc, ◌+◌, ◌≤◌, ◌<◌}
+use native.Mathlib.Nat.{le_refl, add-zero, add-suc}
 use native.Mathlib.Omega.{arith}
 use lib.Dec.{T, eqb, ltb}
 use borrow.Author.Tests.{eq-eqb, ne_eqb, lt-ltb, le-ltb}
@@ -120,6 +120,12 @@ count_cut zero a f g h e z = let x : a ≡ 0 = omega arith in rw x
 count_cut (suc v) a f g h e z =
     by_eq a (suc v) (λ x. rw x (count_same (suc v) f g (λ k l. e k (omega arith))))
     (λ x. rw (z v (omega arith)) (let r = count_cut v a f g (omega arith) e z in omega arith))
+
+-- Those below a, and those of the b numbers from a on.
+pub count_split : (a b : ℕ) (p : ℕ → Bool) → count (a + b) p ≡ count a p + count b (λ k. p (a + k))
+unfolding count
+count_split a zero p = rw add-zero (omega arith)
+count_split a (suc b) p = rw add-suc (let r = count_split a b p in omega arith)
 
 -- None passes.
 pub count_none : (v : ℕ) (p : ℕ → Bool) → ((k : ℕ) → k < v → p k ≡ false) → count v p ≡ 0

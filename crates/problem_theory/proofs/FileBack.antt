@@ -1,17 +1,14 @@
 -- A file is the file of the problem that it states.
-use mathlib.Core.Path.{◌≡◌, refl, sym, ap, ap₂, subst, ◌∙◌}
-use mathlib.Core.Bool.{Bool, ◌&&◌}
+use mathlib.Core.Path.{◌≡◌, refl, sym, ap₂, subst, ◌∙◌}
+use mathlib.Core.Bool.{◌&&◌}
 use mathlib.Core.List.{List}
-use Prim.Native.Nat.{ℕ, zero, suc, ◌+◌, ◌-◌, ◌*◌, ◌/◌, ◌%◌, ◌≤◌, ◌<◌}
-use native.Mathlib.Nat.{le_refl}
+use Prim.Native.Nat.{ℕ, ◌+◌, ◌*◌, ◌/◌, ◌%◌, ◌≤◌, ◌<◌}
 use native.Mathlib.Omega.{arith}
 use lib.Dec.{T}
 use lib.ListN.{get_or}
-use Rattle.mask.specs.Range.{count}
 use Rattle.mask.specs.Mask.{bit, mask_of}
-use Rattle.mask.proofs.Logic.{same, fails, by_lt, by_eq, and_in, and_out, or_left, or_out}
-use Rattle.mask.proofs.Range.{count_none}
-use Rattle.mask.proofs.Places.{count_in}
+use Rattle.mask.proofs.Logic.{same, and_in, and_out, or_left, or_out}
+use Rattle.mask.proofs.Places.{place_is, all_pass}
 use Rattle.mask.proofs.Masks.{bit-mask_of, mask_of_same, mask_of_bits}
 use Rattle.refusal.specs.Chain.{Fine}
 use Rattle.file_layout.specs.Layout.{word, n_of, m_of, variables_at, row_at}
@@ -30,41 +27,8 @@ use Rattle.game.specs.Problem.{Problem}
 use Rattle.game.specs.Lists.{domains, list_of}
 use Rattle.theory.proofs.Lists.{get_d_list_of}
 use Rattle.problem_numbers.specs.Numbers.{tied, row_of, is_pair, constraints_of, constraint_count, numbers_of, file_of}
-use Rattle.problem_theory.proofs.PairCount.{count_split}
 use Rattle.problem_theory.proofs.Listing.{ListedAs, pair_order, constraints_listed}
 use Rattle.problem_theory.proofs.FileLaws.{pair_tied}
-
--- ---- numbers that ascend and are those that pass: each has its own place
-
-module _ (p : ℕ → Bool) (at : ℕ → ℕ) (m : ℕ) (up : (s t : ℕ) → s < t → t < m → at s < at t) (passes : (t : ℕ) → t < m → T (p (at t)))
-    (only : (z : ℕ) → T (p z) → (t : ℕ) × (t < m) × (at t ≡ z)) where
-  no_less : (s t : ℕ) → s ≤ t → t < m → at s ≤ at t
-  no_less s t h l = by_eq s t (λ e. let z = ap at e in omega arith) (λ e. let g = up s t (omega arith) l in omega arith)
-
-  -- Where the first t numbers lie below z and the others do not, t pass below z.
-  passing : (t : ℕ) → t ≤ m → (z : ℕ) → ((s : ℕ) → s < t → at s < z) → ((s : ℕ) → t ≤ s → s < m → z ≤ at s) → count z p ≡ t
-  passing zero h z low high = count_none z p (λ k l. fails λ u. let r = only k u in let g = high r.0 (omega arith) r.1 in omega (arith, r.2))
-  passing (suc t) h z low high =
-      let y = at t in
-      let l : y < z = low t (omega arith) in
-      let e : suc y + (z - suc y) ≡ z = omega arith in
-      let none : count (z - suc y) (λ k. p (suc y + k)) ≡ 0 =
-      count_none (z - suc y) (λ k. p (suc y + k)) λ k g. fails λ u.
-      let r = only (suc y + k) u in
-      by_lt t r.0 (λ b. let c = high r.0 b r.1 in omega (arith, r.2)) (λ b. let c = no_less r.0 t b (omega arith) in omega (arith, r.2))
-      in
-      let c = count_in y p (passes t (omega arith)) in
-      let i = passing t (omega arith) y (λ s g. up s t g (omega arith)) (λ s g b. no_less t s g b) in
-      ap (λ v. count v p) (sym e) ∙ count_split (suc y) (z - suc y) p ∙ omega (arith, none, c, i)
-
-  -- Number t has place t, and m pass in all.
-  place_is : (t : ℕ) → t < m → count (at t) p ≡ t
-  place_is t h = passing t (omega arith) (at t) (λ s g. up s t g h) (λ s g b. no_less t s g b)
-
-  all_pass : (z : ℕ) → ((t : ℕ) → t < m → at t < z) → count z p ≡ m
-  all_pass z h = passing m (le_refl m) z h (λ s g b. absurd (omega arith))
-
--- ---- the file
 
 module _ (f : List ℕ) (bytes : (k : ℕ) → get_or f k 0 < 256) (fine : verdict_of f ≡ Fine) where
   abbrev Q : Problem

@@ -2,22 +2,15 @@
 use mathlib.Core.Path.{◌≡◌, refl}
 use mathlib.Core.Bool.{Bool, true, ◌&&◌}
 use Prim.Native.Nat.{ℕ, zero, suc, ◌+◌, ◌-◌, ◌*◌, ◌/◌, ◌%◌, ◌≤◌, ◌<◌}
-use native.Mathlib.Nat.{add-zero, add-suc}
 use native.Mathlib.Omega.{arith}
 use lib.Dec.{T, leb, ltb}
 use borrow.Author.Tests.{leb-true, ltb-true, lt-ltb}
 use Rattle.mask.specs.Range.{each, count}
 use Rattle.mask.proofs.Logic.{holds, fails, and_out}
-use Rattle.mask.proofs.Range.{each_out, count_same, count_cut}
+use Rattle.mask.proofs.Range.{each_out, count_same, count_cut, count_split}
 use Rattle.mask.proofs.Places.{place-below, count-above}
 use Rattle.file_layout.specs.Numbers.{in_order}
 use Rattle.file_layout.proofs.NumberLaws.{order_out, constraints_most}
-
--- Those below a, and those of the b numbers from a on.
-pub count_split : (a b : ℕ) (p : ℕ → Bool) → count (a + b) p ≡ count a p + count b (λ k. p (a + k))
-unfolding count
-count_split a zero p = rw add-zero (omega arith)
-count_split a (suc b) p = rw add-suc (let r = count_split a b p in omega arith)
 
 -- At most so many pairs have one of the first k variables in front.
 abbrev pairs_to : ℕ → ℕ → ℕ

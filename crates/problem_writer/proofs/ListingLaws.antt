@@ -15,10 +15,10 @@ use Rattle.mask.proofs.Logic.{holds, true_holds, and_out}
 use Rattle.mask.proofs.Places.{count_in, count_out}
 use Rattle.buffer.specs.Stored.{stored, joined}
 use Rattle.buffer.proofs.StoredLaws.{stored_behind, stored-start, joined-stored, row_of_width, one_each}
+use Rattle.buffer.proofs.ChosenLaws.{length_chosen}
 use Rattle.file_layout.specs.Numbers.{in_order}
 use Rattle.file_layout.proofs.NumberLaws.{constraints_most}
 use Rattle.problem_theory.proofs.PairCount.{pairs_most, pair_few}
-use Rattle.problem_theory.proofs.Listing.{length_chosen}
 use Rattle.solver_arrays.specs.declared.arrays.Arrays.{Arrays}
 use Rattle.solver_arrays.specs.Arrays.{row_in}
 use Rattle.problem_writer.specs.Listing.{tied_in, row_within, numbers_in, is_pair_in, constraints_in, Lists}
@@ -74,7 +74,7 @@ module _ (A : Arrays) where
   -- 18 numbers for each constraint.
   length_constraints : (x : ℕ) → length (constraints_in A x) ≡ 18 * count x (is_pair_in A)
   unfolding constraints_in
-  length_constraints x = length_chosen (is_pair_in A) (λ y. numbers_in A (y / 32) (y % 32)) (λ y. length_numbers (y / 32) (y % 32)) x
+  length_constraints x = length_chosen 18 (is_pair_in A) (λ y. numbers_in A (y / 32) (y % 32)) (λ y. length_numbers (y / 32) (y % 32)) x
 
   -- What is listed of the pairs below x: t constraints, put at the start of l.
   pub record ListedBelow (l : List ℕ) (x t : ℕ) (l' : List ℕ) : Type 0 where
