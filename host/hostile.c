@@ -66,6 +66,7 @@ typedef struct {
         kb_ruled ruled;
         kb_checked checked;
         kb_looked looked;
+        kb_named_values named_values;
         kb_values values;
         kb_formula_judgement formula_judgement;
         kb_group_list group_list;
@@ -74,7 +75,7 @@ typedef struct {
 } outcome;
 
 _Static_assert(sizeof(kb_opened) == 24 + 96 && sizeof(kb_searched) == 48 + 128 && sizeof(kb_moved) == 24 + 40
-               && sizeof(kb_group_list) == 32 + 32, "replies without padding");
+               && sizeof(kb_group_list) == 32 + 32 && sizeof(kb_named_values) == 40 + 32, "replies without padding");
 
 enum { DIRT = 0x5a };
 
@@ -146,7 +147,7 @@ static void call(entry e, const arguments *g, outcome *o) {
     case ARC: o->reply.ruled = kb_arc(f, l, words, w); break;
     case FORWARD_CHECK: o->reply.checked = kb_forward_check(f, l, words, w, g->x, g->a); break;
     case LOOK_AHEAD: o->reply.looked = kb_look_ahead(f, l, words, w, g->x); break;
-    case PURE: o->reply.values = kb_pure(f, l, words, w, g->x); break;
+    case PURE: o->reply.named_values = kb_pure(f, l, words, w, g->x); break;
     case INTERCHANGEABLE: o->reply.values = kb_interchangeable(f, l, words, w, g->x); break;
     case FORMULA: o->reply.written = kb_formula(f, l, g->lent, g->size); break;
     case JUDGE_FORMULA: o->reply.formula_judgement = kb_judge_formula(f, l, g->lent, g->size); break;
@@ -335,7 +336,8 @@ static void expect(entry e, const arguments *g, outcome *o, const outcome *got) 
         memcpy(o->lent, list, g->size);
         break;
     case LOOK_AHEAD: o->reply.looked.lost = (uint64_t)ahead(j, list, g->x, &o->reply.looked.value, &o->reply.looked.variable); break;
-    case PURE: case INTERCHANGEABLE: o->reply.values.values = kept(j, list, g->x, e == PURE); break;
+    case PURE: pure(j, list, g->x, &o->reply.named_values); break;
+    case INTERCHANGEABLE: o->reply.values.values = unlike_smaller(j, list, g->x); break;
     case FORMULA:
         o->reply.written.length = g->text_length;
         memcpy(o->lent, g->text, g->text_length);

@@ -1,6 +1,6 @@
 /* The game and the first five rules on the numbers of a job, each as document 01 words it, for small jobs, the text of the job's formula,
-   as card 1 of document 02 words it, and its groups, as card 4 does: a plain model beside which the entries are tried. It shares nothing
-   with the library. */
+   as card 1 of document 02 words it, its groups, as card 4 does, and what rule 4 names, as card 5 does: a plain model beside which the
+   entries are tried. It shares nothing with the library. */
 #ifndef MODEL_H
 #define MODEL_H
 
@@ -138,13 +138,27 @@ static int ahead(const job *j, const uint16_t *list, uint64_t x, uint64_t *optio
     return 0;
 }
 
-/* Rules 4 and 5: the pure options of x; the options that have no smaller one alike. */
-static uint16_t kept(const job *j, const uint16_t *list, uint64_t x, int pure) {
+/* Rule 4. For each option the first choice, and its first option, that it does not go with; the options without such are pure. `to` is
+   zero before. */
+static void pure(const job *j, const uint16_t *list, uint64_t x, kb_named_values *to) {
+    for (unsigned a = 0; a < 16; a++) {
+        int named = 0;
+        if (!has(list[x], a)) continue;
+        for (uint64_t k = 0; k < j->n; k++)
+            for (unsigned b = 0; b < 16; b++) {
+                if (named || k == x || !has(list[k], b) || goes(j, x, a, k, b)) continue;
+                to->variables[a] = (uint8_t)k, to->values[a] = (uint8_t)b, named = 1;
+            }
+        *(named ? &to->impure : &to->pure) |= 1u << a;
+    }
+}
+
+/* Rule 5: the options of x that have no smaller one alike. */
+static uint16_t unlike_smaller(const job *j, const uint16_t *list, uint64_t x) {
     uint16_t mask = 0;
     for (unsigned a = 0; a < 16; a++) {
         int keep = has(list[x], a);
-        for (uint64_t k = 0; pure && k < j->n; k++) keep &= k == x || going(j, x, a, k, list[k]) == list[k];
-        for (unsigned b = 0; !pure && b < a; b++) {
+        for (unsigned b = 0; b < a; b++) {
             int alike = has(list[x], b);
             for (uint64_t k = 0; k < j->n; k++) alike &= k == x || going(j, x, a, k, list[k]) == going(j, x, b, k, list[k]);
             keep &= !alike;

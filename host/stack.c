@@ -37,7 +37,7 @@ static volatile uint64_t sink;
     X(kb_arc, kb_arc(file, length, list, 32).lost)                                                                                        \
     X(kb_forward_check, kb_forward_check(file, length, list, 32, 0, 0).lost)                                                              \
     X(kb_look_ahead, kb_look_ahead(file, length, list, 32, 0).lost)                                                                       \
-    X(kb_pure, kb_pure(file, length, list, 32, 0).values)                                                                                 \
+    X(kb_pure, kb_pure(file, length, list, 32, 0).pure)                                                                                   \
     X(kb_interchangeable, kb_interchangeable(file, length, list, 32, 0).values)                                                           \
     X(kb_formula, kb_formula(file, length, formula, KB_FORMULA).length)                                                                   \
     X(kb_groups, kb_groups(file, length).count)                                                                                           \

@@ -49,7 +49,7 @@ extern "C" {
 
 /* Raised by every change of a function or a struct below. A program asks `kb_interface() == KB_INTERFACE` once, before any other
    call: else header and library are not of one make. */
-#define KB_INTERFACE 4
+#define KB_INTERFACE 5
 
 #define KB_FINISHED 0
 #define KB_REFUSED 1
@@ -189,6 +189,19 @@ typedef struct {
     uint64_t values;
 } kb_values;
 
+/* The pure options of a choice, and the others of the list's mask. For each of these others, a, `variables[a]` names the first choice in
+   order of play, the choice itself left out, of which the list has an option that a does not go with, and `values[a]` its smallest such
+   option; else nothing is named, and both are zero. Choice 0 and option 0 are names too: `impure` tells where there is one. */
+typedef struct {
+    uint64_t kind;
+    uint64_t number;
+    uint64_t place;
+    uint64_t pure;      /* bit a: option a is pure */
+    uint64_t impure;    /* bit a: option a is in the list's mask and not pure: at a a choice and an option are named */
+    uint8_t variables[16];
+    uint8_t values[16];
+} kb_named_values;
+
 /* What a search finds: the verdict; whether the rules of its first turn found a loss, and the list that they reached; the conflict
    set of a lost search, bit k for choice k; the leaf of a won one, an option for each choice. From n on list and leaf are zero. */
 typedef struct {
@@ -298,9 +311,12 @@ kb_checked kb_forward_check(const uint8_t *file, size_t length, uint16_t *list, 
    it finds none. The list is only read. */
 kb_looked kb_look_ahead(const uint8_t *file, size_t length, const uint16_t *list, size_t masks, uint64_t x);
 
-/* The pure options of choice x (rule 4), and the smallest of each group of its options that are alike (rule 5). The list is only
+/* The pure options of choice x (rule 4): those that go with every option that the list has at any other choice. For each other option of
+   the list's mask it names the first choice, in order of play, and of that the first option, that it does not go with. The list is only
    read. */
-kb_values kb_pure(const uint8_t *file, size_t length, const uint16_t *list, size_t masks, uint64_t x);
+kb_named_values kb_pure(const uint8_t *file, size_t length, const uint16_t *list, size_t masks, uint64_t x);
+
+/* The smallest of each group of options of choice x that are alike (rule 5). The list is only read. */
 kb_values kb_interchangeable(const uint8_t *file, size_t length, const uint16_t *list, size_t masks, uint64_t x);
 
 /* ---- formulas

@@ -1,6 +1,6 @@
 //! The entries as `include/kickballbox.h` declares them, and their replies as results.
 
-use crate::{OpenValues, Position, Reason, Refusal};
+use crate::{Clash, OpenValues, Position, PureValues, Reason, Refusal};
 
 /// What every reply begins with. The header repeats these fields in each struct; the layout is the same.
 #[repr(C)]
@@ -108,6 +108,16 @@ pub struct Values {
 
 #[repr(C)]
 #[derive(Clone, Copy, Debug, Default, PartialEq, Eq)]
+pub struct NamedValues {
+    pub answer: Answer,
+    pub pure: u64,
+    pub impure: u64,
+    pub variables: [u8; 16],
+    pub values: [u8; 16],
+}
+
+#[repr(C)]
+#[derive(Clone, Copy, Debug, Default, PartialEq, Eq)]
 pub struct Searched {
     pub answer: Answer,
     pub won: u64,
@@ -163,7 +173,7 @@ extern "C" {
     pub fn kb_arc(file: *const u8, length: usize, list: *mut u16, masks: usize) -> Ruled;
     pub fn kb_forward_check(file: *const u8, length: usize, list: *mut u16, masks: usize, x: u64, a: u64) -> Checked;
     pub fn kb_look_ahead(file: *const u8, length: usize, list: *const u16, masks: usize, x: u64) -> Looked;
-    pub fn kb_pure(file: *const u8, length: usize, list: *const u16, masks: usize, x: u64) -> Values;
+    pub fn kb_pure(file: *const u8, length: usize, list: *const u16, masks: usize, x: u64) -> NamedValues;
     pub fn kb_interchangeable(file: *const u8, length: usize, list: *const u16, masks: usize, x: u64) -> Values;
 
     pub fn kb_formula(file: *const u8, length: usize, buffer: *mut u8, size: usize) -> Written;
@@ -193,7 +203,7 @@ macro_rules! replies {
         }
     )*};
 }
-replies!(Reading Found Written Opened Judgement Marks Ruled Checked Looked Values Searched FormulaJudgement GroupList);
+replies!(Reading Found Written Opened Judgement Marks Ruled Checked Looked Values NamedValues Searched FormulaJudgement GroupList);
 
 /// The reply, where the call finished. Any kind but 0 is a refusal, and 2 one with a place.
 pub fn finished<T: Reply>(reply: T) -> Result<T, Refusal> {
@@ -231,6 +241,14 @@ impl Marks {
 impl Opened {
     pub fn typed(self) -> OpenValues {
         OpenValues { masks: self.masks, counts: self.counts }
+    }
+}
+
+impl NamedValues {
+    pub fn typed(self) -> PureValues {
+        let impure = mask(self.impure);
+        let clash = |a: usize| Clash { variable: self.variables[a].into(), value: self.values[a].into() };
+        PureValues { pure: mask(self.pure), clashes: std::array::from_fn(|a| (impure >> a & 1 == 1).then(|| clash(a))) }
     }
 }
 

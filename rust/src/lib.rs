@@ -56,12 +56,12 @@ pub use interface::{check_interface, OtherInterface};
 pub use position::Position;
 pub use problem::Problem;
 pub use refusal::{Reason, Refusal};
-pub use replies::{Groups, JudgedFormula, LosingValue, Marks, OpenValues, Reading, Replayed, Searched};
+pub use replies::{Clash, Groups, JudgedFormula, LosingValue, Marks, OpenValues, PureValues, Reading, Replayed, Searched};
 pub use rule_set::RuleSet;
 pub use session::Session;
 
 /// The interface that this wrapper is written for: `KB_INTERFACE` of the header.
-pub const INTERFACE: u64 = 4;
+pub const INTERFACE: u64 = 5;
 /// The stack to give a call, in bytes: `KB_STACK` of the header.
 pub const STACK: usize = 131072;
 /// The stack to give [`File::judge_formula`], in bytes: `KB_FORMULA_STACK` of the header.

@@ -61,6 +61,25 @@ pub struct LosingValue {
     pub variable: usize,
 }
 
+/// What rule 4 replies of a variable.
+#[derive(Clone, Copy, Debug, PartialEq, Eq)]
+pub struct PureValues {
+    /// The mask of the pure values: those that go with every value that the list has at any other variable.
+    pub pure: u16,
+    /// At place a, for each other value a of the list's mask, the first that it does not go with; `None` at pure values, and at those that
+    /// are not in the mask.
+    pub clashes: [Option<Clash>; 16],
+}
+
+/// What a value that is not pure does not go with first.
+#[derive(Clone, Copy, Debug, PartialEq, Eq)]
+pub struct Clash {
+    /// The first variable in order of play, the value's own left out, of which the list has a value that it does not go with.
+    pub variable: usize,
+    /// The smallest such value.
+    pub value: usize,
+}
+
 /// What judging a problem's formula replies.
 #[derive(Clone, Copy, Debug, PartialEq, Eq)]
 pub struct JudgedFormula {

@@ -2,7 +2,7 @@
 //! `List`; those with a variable then a variable that the file does not have with `Choice`.
 
 use crate::entries::{self, finished, flag, mask};
-use crate::{File, LosingValue, Refusal};
+use crate::{File, LosingValue, PureValues, Refusal};
 
 impl File<'_> {
     /// Arc (rule 1): leaves the list without dead values, also in a loss, and replies whether it is a loss. Refuses with `List`.
@@ -33,12 +33,13 @@ impl File<'_> {
         finished(reply).map(|looked| flag(looked.lost).then(|| named(looked)))
     }
 
-    /// The mask of the pure values of variable x (rule 4). Refuses with `List`, `Choice`.
-    pub fn pure(self, list: &[u16], x: usize) -> Result<u16, Refusal> {
+    /// The pure values of variable x (rule 4), and what each other value of the list's mask does not go with first. Refuses with `List`,
+    /// `Choice`.
+    pub fn pure(self, list: &[u16], x: usize) -> Result<PureValues, Refusal> {
         let (file, length) = self.lent();
         // SAFETY: the entry reads the file's bytes and the list.
         let reply = unsafe { entries::kb_pure(file, length, list.as_ptr(), list.len(), x as u64) };
-        finished(reply).map(|shown| mask(shown.values))
+        finished(reply).map(entries::NamedValues::typed)
     }
 
     /// The mask of the smallest of each group of interchangeable values of variable x (rule 5). Refuses with `List`, `Choice`.

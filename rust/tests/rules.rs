@@ -1,8 +1,8 @@
-//! The five rules alone: stored cases, and every refusal.
+//! The five rules alone: stored cases, what they name, and every refusal.
 
 use crate::plain::{self, Kind, Random};
 use crate::{lent, small_jobs, stored, tally::Tally};
-use kickballbox::{File, LosingValue, Reason, Refusal};
+use kickballbox::{Clash, File, LosingValue, PureValues, Reason, Refusal};
 
 const NAMES: [&str; 5] = ["arc", "forward check", "look ahead", "pure", "interchangeable"];
 
@@ -30,14 +30,14 @@ fn cases() -> Vec<Case> {
     })
 }
 
-/// What a rule tells, by its number: 0 for no loss; 1 for a loss and what it names; a mask. And whether it leaves this list and touches
-/// no more.
+/// What a rule tells, by its number: 0 for no loss; 1 for a loss and what it names; a mask, of rule 4 with the names of each value that is
+/// named. And whether it leaves this list and touches no more.
 fn ruled(rule: u8, file: File, list: &[u16], x: usize, a: usize, left: &[u16]) -> (Result<Vec<usize>, Refusal>, bool) {
     lent::with_list(list, left, |list| match rule {
         1 => file.arc(list).map(|lost| vec![lost.into()]),
         2 => file.forward_check(list, x, a).map(|named| told(named.map(|variable| vec![variable]))),
         3 => file.look_ahead(list, x).map(|named| told(named.map(|LosingValue { value, variable }| vec![value, variable]))),
-        4 => file.pure(list, x).map(|mask| vec![mask.into()]),
+        4 => file.pure(list, x).map(told_pure),
         _ => file.interchangeable(list, x).map(|mask| vec![mask.into()]),
     })
 }
@@ -45,6 +45,12 @@ fn ruled(rule: u8, file: File, list: &[u16], x: usize, a: usize, left: &[u16]) -
 /// A loss with what it names, or none.
 fn told(named: Option<Vec<usize>>) -> Vec<usize> {
     named.map_or(vec![0], |names| [vec![1], names].concat())
+}
+
+/// The mask of the pure values, and each value that is named with its variable and its value.
+fn told_pure(PureValues { pure, clashes }: PureValues) -> Vec<usize> {
+    let names = clashes.iter().enumerate().filter_map(|(a, clash)| clash.map(|Clash { variable, value }| [a, variable, value]));
+    [vec![pure.into()], names.flatten().collect()].concat()
 }
 
 #[test]
@@ -99,13 +105,46 @@ fn stored_names() {
     tally.end(1200);
 }
 
+/// The pure values, and what rule 4 names at each of the 16 places: a variable and a value, or nothing where both are stored as 255.
+#[test]
+fn stored_names_of_pure() {
+    let mut tally = Tally::new("rules: stored names of pure");
+    let (mut named, mut pure, mut absent) = (0, 0, 0);
+    let cases = stored::all("card05.bin", |c| {
+        let file = c.file();
+        let list = c.words(file[2].into());
+        let (x, pure) = (usize::from(c.byte()), c.word());
+        let places: [(u8, u8); 16] = std::array::from_fn(|_| (c.byte(), c.byte()));
+        (file, list, x, pure, places)
+    });
+    for (bytes, list, x, mask, places) in cases {
+        let clashes = places.map(|(variable, value)| {
+            assert_eq!(variable == 255, value == 255, "half a name");
+            (variable != 255).then_some(Clash { variable: variable.into(), value: value.into() })
+        });
+        let came = lent::with_list(&list, &list, |list| File::new(&bytes).pure(list, x));
+        tally.compare(came, (Ok(PureValues { pure: mask, clashes }), true));
+        for (a, clash) in clashes.iter().enumerate() {
+            match (clash, list[x] >> a & 1, mask >> a & 1) {
+                (Some(_), 1, 0) => named += 1,
+                (None, 1, 1) => pure += 1,
+                (None, 0, 0) => absent += 1,
+                other => panic!("value {a} is stored as {other:?}"),
+            }
+        }
+    }
+    println!("rules: stored names of pure: {named} values named, {pure} pure, {absent} not in the mask");
+    assert!(named > 0 && pure > 0 && absent > 0);
+    tally.end(1000);
+}
+
 /// Every variable and value of generated lists, beside the rules' definitions.
 #[test]
 fn generated_lists() {
     let mut tallies = NAMES.map(|name| Tally::new(format!("rules: generated lists, {name}")));
     let mut losses = [0; 5];
     let mut random = Random(0x51ab1e);
-    let (mut lists, mut variables, mut checks) = (0, 0, 0);
+    let (mut lists, mut variables, mut checks, mut named) = (0, 0, 0, 0);
     for k in 0..600 {
         let kind = Kind {
             n: if k % 50 == 0 { 32 } else { 1 + random.below(10) },
@@ -135,18 +174,21 @@ fn generated_lists() {
             }
             let losing = p.look_ahead(&list, x);
             compare(3, x, 0, told(losing.first().map(|(value, variable)| vec![usize::from(*value), *variable])), &list);
-            compare(4, x, 0, vec![p.pure(&list, x).into()], &list);
+            let clashes = p.clashes(&list, x);
+            named += clashes.len();
+            let names = clashes.into_iter().flat_map(|(a, variable, value)| [a.into(), variable, value.into()]);
+            compare(4, x, 0, [vec![p.pure(&list, x).into()], names.collect()].concat(), &list);
             compare(5, x, 0, vec![p.interchangeable(&list, x).into()], &list);
             variables += 1;
         }
         lists += 1;
     }
     println!(
-        "rules: generated lists, losses of arc, forward check and look ahead: {:?}; variables with pure values: {}",
+        "rules: generated lists, losses of arc, forward check and look ahead: {:?}; variables with pure values: {}; values named: {named}",
         &losses[..3],
         losses[3]
     );
-    assert!(losses.iter().all(|count| *count > 50), "too plain a mixture");
+    assert!(losses.iter().all(|count| *count > 50) && named > 50, "too plain a mixture");
     for (tally, count) in tallies.into_iter().zip([lists, checks, variables, variables, variables]) {
         tally.end(count);
     }

@@ -2,7 +2,7 @@
 
 use crate::plain::{self, Constraint, Problem};
 use crate::{all_sets, tally::Tally};
-use kickballbox::{File, Marks, Position, Reason};
+use kickballbox::{Clash, File, Marks, Position, PureValues, Reason};
 
 /// A problem of universal ('A') and existential ('E') variables with these domains, and constraints by their first two rows.
 fn job(sides: &str, domains: &[u16], constraints: &[(usize, usize, [u16; 2])]) -> Vec<u8> {
@@ -75,12 +75,45 @@ fn rules_alone() {
         let file = File::new(&bytes);
         let read = file.read().expect("an accepted file");
         let mut list = read.domains[..read.n].to_vec();
-        tally.compare((name, file.pure(&list, 0)), (name, Ok(pure)));
+        tally.compare((name, file.pure(&list, 0).map(|shown| shown.pure)), (name, Ok(pure)));
         tally.compare((name, file.interchangeable(&list, 0)), (name, Ok(interchangeable)));
         tally.compare((name, file.arc(&mut list)), (name, Ok(arc.0)));
         tally.compare((name, list), (name, arc.1));
     }
     tally.end(20);
+}
+
+/// The pure values of a variable over the file's own domains, and of each other value (first number) the variable and the value that it does
+/// not go with.
+#[test]
+fn names_of_pure() {
+    let [g1, g2, g3, g4, g5, g6, g7, g8] = g1_to_g8();
+    let all = [
+        (&g1, 0, 0, vec![(0, 1, 0), (1, 1, 1)]),
+        (&g1, 1, 0, vec![(0, 0, 0), (1, 0, 1)]),
+        (&g2, 0, 0, vec![(0, 1, 0), (1, 1, 1)]),
+        (&g3, 0, 3, vec![]),
+        (&g3, 1, 0, vec![(0, 2, 0)]),
+        (&g3, 2, 0, vec![(0, 1, 0)]),
+        (&g4, 0, 1, vec![(1, 1, 0)]),
+        (&g5, 0, 1, vec![(1, 1, 0)]),
+        (&g5, 1, 2, vec![(0, 0, 1)]),
+        (&g6, 0, 1, vec![(1, 2, 0)]),
+        (&g6, 1, 0, vec![(0, 2, 1), (1, 2, 0)]),
+        (&g6, 2, 0, vec![(0, 0, 1), (1, 1, 0)]),
+        (&g7, 0, 32, vec![]),
+        (&g8, 0, 3, vec![]),
+    ];
+    let count = all.len();
+    let mut tally = Tally::new("small jobs: names of pure");
+    for ((name, bytes, ..), x, pure, names) in all {
+        let file = File::new(bytes);
+        let read = file.read().expect("an accepted file");
+        let mut expected = PureValues { pure, clashes: [None; 16] };
+        names.into_iter().for_each(|(a, variable, value): (usize, _, _)| expected.clashes[a] = Some(Clash { variable, value }));
+        tally.compare((name, x, file.pure(&read.domains[..read.n], x)), (name, x, Ok(expected)));
+    }
+    tally.end(count as u64);
 }
 
 /// G9 and G10: plays and take-backs on G1.

@@ -1,11 +1,11 @@
 // A call's reply as one number.
 ghost use Rattle.std.specs.Prelude.{◌≡◌, ℕ, ◌<◌, List, get_or};
 ghost use Rattle.refusal.specs.Told.{refusal_told, told_by};
-ghost use Rattle.rule_entries.specs.Alone.{loss_values, check_values, look_values, mask_values};
+ghost use Rattle.rule_entries.specs.Alone.{loss_values, check_values, look_values, mask_values, name_values};
 ghost use Rattle.bench.specs.Number.{as_number};
 
 use refusal::Refusal;
-use rule_entries::Ahead;
+use rule_entries::{Ahead, PureNames};
 
 // What a finished reply says: the first of its values.
 pub trait Value {
@@ -44,6 +44,14 @@ impl Value for u16 {
 
     fn value(self) -> u64 {
         self as u64
+    }
+}
+
+impl Value for PureNames {
+    ghost values = { name_values };
+
+    fn value(self) -> u64 {
+        self.pure as u64
     }
 }
 

@@ -8,14 +8,14 @@ ghost use Rattle.file_bytes.specs.Bytes.{handed};
 ghost use Rattle.file_writer.specs.Writing.{write_told, write_buffer};
 ghost use Rattle.formula_entries.specs.Told.{formula_told, formula_left, judge_formula_told};
 ghost use Rattle.group_entries.specs.Told.{groups_told, groups_listed, write_group_told, write_group_left};
-ghost use Rattle.rule_entries.specs.Alone.{arc_told, arc_left, forward_told, forward_left, ahead_told, pure_told, interchangeable_told};
+ghost use Rattle.rule_entries.specs.Alone.{arc_told, arc_left, forward_told, forward_left, ahead_told, pure_told, pure_shown, interchangeable_told};
 ghost use Rattle.session.specs.Told.{play_told, play_left, take_back_told, take_back_left, open_told, masks_shown, counts_shown};
 ghost use Rattle.search_run.specs.Run.{held_room};
 ghost use Rattle.judging.specs.Judging.{judge_told, judge_left};
 ghost use Rattle.judging.specs.Searching.{search_found};
 ghost use Rattle.marking.specs.Marking.{mark_told, mark_left};
 ghost use Rattle.host_replies.specs.Replies.{read_file_of, found_of, written_of, answer_of, moved_of, opened_of, judgement_of, marks_of};
-ghost use Rattle.host_replies.specs.Replies.{searched_of, ruled_of, checked_of, looked_of, values_of, formula_judgement_of, group_list_of};
+ghost use Rattle.host_replies.specs.Replies.{searched_of, ruled_of, checked_of, looked_of, named_of, values_of, formula_judgement_of, group_list_of};
 ghost use Rattle.host.specs.Unpack.{unpack};
 ghost use Rattle.host.specs.Handed.{set_handed};
 ghost use Rattle.host.specs.Text.{text_told, text_left};
@@ -23,14 +23,14 @@ ghost use Rattle.host.specs.Replayed.{replay_of};
 
 use host_replies::{
     CallAnswer, CheckedList, FormulaJudgement, FoundRows, GroupList, Judgement, LookedAhead, Marks,
-    MovedPosition, OpenMasks, ReadFile, ReplayedCalls, RuledList, SearchFindings, ValueMask,
-    WrittenBytes,
+    MovedPosition, NamedValues, OpenMasks, ReadFile, ReplayedCalls, RuledList, SearchFindings,
+    ValueMask, WrittenBytes,
 };
 use position::Position;
 
 #[unsafe(no_mangle)]
 pub extern "C" fn kb_interface() -> u64
-    ensures { result ≡ 4 }
+    ensures { result ≡ 5 }
 {
     host::kb_interface()
 }
@@ -191,8 +191,8 @@ pub extern "C" fn kb_look_ahead(f: &[u8], list: &[u16], x: u64) -> LookedAhead
 }
 
 #[unsafe(no_mangle)]
-pub extern "C" fn kb_pure(f: &[u8], list: &[u16], x: u64) -> ValueMask
-    ensures { result ≡ values_of (pure_told f.now list.now x) }
+pub extern "C" fn kb_pure(f: &[u8], list: &[u16], x: u64) -> NamedValues
+    ensures { result ≡ named_of (pure_told f.now list.now x) (pure_shown f.now list.now x) }
 {
     host::kb_pure(f, list, x)
 }

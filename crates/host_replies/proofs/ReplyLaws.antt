@@ -23,7 +23,8 @@ use Rattle.judging.specs.Searching.{found, findings_of, nothing}
 use Rattle.marking.specs.declared.Marks.{Marks as Marked}
 use Rattle.marking.specs.Marking.{told as toldMarked}
 use Rattle.rule_forward.specs.declared.steps.Ahead.{Ahead}
-use Rattle.rule_entries.specs.Alone.{told as toldRuled, told_check, told_look, told_values}
+use Rattle.rule_narrow.specs.declared.names.PureNames.{PureNames}
+use Rattle.rule_entries.specs.Alone.{told as toldRuled, told_check, told_look, told_pure, no_names, names_shown, told_values}
 use Rattle.formula_entries.specs.declared.JudgedFormula.{JudgedFormula}
 use Rattle.formula_entries.specs.Told.{told_judged}
 use Rattle.host_replies.specs.declared.files.FoundRows.{FoundRows}
@@ -37,8 +38,9 @@ use Rattle.host_replies.specs.declared.games.SearchFindings.{SearchFindings}
 use Rattle.host_replies.specs.declared.arcs.RuledList.{RuledList}
 use Rattle.host_replies.specs.declared.checks.CheckedList.{CheckedList}
 use Rattle.host_replies.specs.declared.looks.LookedAhead.{LookedAhead}
+use Rattle.host_replies.specs.declared.names.NamedValues.{NamedValues}
 use Rattle.host_replies.specs.declared.values.ValueMask.{ValueMask}
-use Rattle.host_replies.specs.Replies.{kind_of, number_of, place_of, value_of, count_from, found_of, written_of, answer_of, opened_of, judgement_of, marks_of, searched_of, ruled_of, checked_of, looked_of, values_of, formula_judgement_of}
+use Rattle.host_replies.specs.Replies.{kind_of, number_of, place_of, value_of, count_from, found_of, written_of, answer_of, opened_of, judgement_of, marks_of, searched_of, ruled_of, checked_of, looked_of, named_of, values_of, formula_judgement_of}
 
 -- Kind, number and place of an answer.
 abbrev pub head_of : {A : Type 0} → Result A Refusal → CallAnswer
@@ -130,6 +132,15 @@ looked_ahead (Ok None) h d = rw (d.0, d.1) refl
 looked_ahead (Ok (Some x)) h d = rw d refl
 looked_ahead (Err (InFile f)) h d = rw (d.0, d.1) refl
 looked_ahead (Err (InCall e)) h d = rw (d.0, d.1) refl
+
+pub named_values : (r : Result PureNames Refusal) →
+    let a = head_of r in
+    let s = result_unwrap_or r (record { pure = 0; impure = 0; variables = replicate 16 0; values = replicate 16 0 }) in
+    ◌≡◌ {A = NamedValues} (record { kind = a.kind; number = a.number; place = a.place; pure = s.pure; impure = s.impure; variables = s.variables; values = s.values }) (named_of (told_pure r) (names_shown r))
+unfolding named_of no_names answer_of kind_of number_of place_of
+named_values (Ok s) = refl
+named_values (Err (InFile f)) = refl
+named_values (Err (InCall e)) = refl
 
 pub value_mask : (r : Result ℕ Refusal) →
     let a = head_of r in

@@ -4,6 +4,7 @@ use Rattle.std.specs.Prelude.{ℕ, cond, List, length, drop, get_or}
 use Rattle.refusal.specs.Told.{Told, replied, refused, refused_at}
 use Rattle.file_reader.specs.Used.{set_used}
 use Rattle.position.specs.declared.Position.{Position}
+use Rattle.rule_narrow.specs.declared.names.PureNames.{PureNames}
 use Rattle.judging.specs.Searching.{Findings}
 use Rattle.host_replies.specs.declared.files.ReadFile.{ReadFile}
 use Rattle.host_replies.specs.declared.files.FoundRows.{FoundRows}
@@ -20,6 +21,7 @@ use Rattle.host_replies.specs.declared.groups.GroupList.{GroupList}
 use Rattle.host_replies.specs.declared.arcs.RuledList.{RuledList}
 use Rattle.host_replies.specs.declared.checks.CheckedList.{CheckedList}
 use Rattle.host_replies.specs.declared.looks.LookedAhead.{LookedAhead}
+use Rattle.host_replies.specs.declared.names.NamedValues.{NamedValues}
 use Rattle.host_replies.specs.declared.values.ValueMask.{ValueMask}
 
 unfoldable pub kind_of : Told → ℕ
@@ -104,6 +106,11 @@ checked_of t = record { kind = kind_of t; number = number_of t; place = place_of
 
 unfoldable pub looked_of : Told → LookedAhead
 looked_of t = record { kind = kind_of t; number = number_of t; place = place_of t; lost = value_of t 0; value = value_of t 1; variable = value_of t 2 }
+
+-- Rule 4's masks and names stand in fields of their own, zero on a refusal.
+unfoldable pub named_of : Told → PureNames → NamedValues
+named_of t r =
+    record { kind = kind_of t; number = number_of t; place = place_of t; pure = r.pure; impure = r.impure; variables = r.variables; values = r.values }
 
 unfoldable pub values_of : Told → ValueMask
 values_of t = record { kind = kind_of t; number = number_of t; place = place_of t; values = value_of t 0 }

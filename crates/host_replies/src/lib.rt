@@ -11,6 +11,7 @@ mod formula_judgements;
 mod games;
 mod groups;
 mod looks;
+mod names;
 mod values;
 
 pub use arcs::RuledList;
@@ -21,4 +22,5 @@ pub use formula_judgements::FormulaJudgement;
 pub use games::{Judgement, Marks, ReplayedCalls, SearchFindings};
 pub use groups::GroupList;
 pub use looks::LookedAhead;
+pub use names::NamedValues;
 pub use values::ValueMask;

@@ -1,4 +1,4 @@
-// Replies of rules 4 and 5 alone.
+// Replies of rule 5 alone.
 ghost use Rattle.std.specs.Prelude.{◌≡◌};
 ghost use Rattle.rule_entries.specs.Alone.{told_values};
 ghost use Rattle.host_replies.specs.Replies.{values_of};

@@ -4,5 +4,7 @@
 pub mod CheckLaws
 -- Rule 1 on these words.
 pub mod ArcLaws
+-- Rule 4's names.
+pub mod NameLaws
 -- From the arrays back to the file.
 pub mod EntryLaws

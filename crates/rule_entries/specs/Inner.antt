@@ -4,9 +4,10 @@ use Rattle.refusal.specs.declared.reason.Reason.{Reason}
 use Rattle.refusal.specs.Told.{reason_told, told_by}
 use Rattle.game.specs.Problem.{Problem}
 use Rattle.rule_forward.specs.declared.steps.Ahead.{Ahead}
+use Rattle.rule_narrow.specs.declared.names.PureNames.{PureNames}
 use Rattle.solver_arrays.specs.declared.arrays.Arrays.{Arrays}
 use Rattle.solver_arrays.specs.Arrays.{Poses}
-use Rattle.rule_entries.specs.Alone.{loss_values, check_values, look_values, mask_values, arc_reply, arc_list, forward_reply, forward_list, ahead_reply, pure_reply, interchangeable_reply}
+use Rattle.rule_entries.specs.Alone.{loss_values, check_values, look_values, mask_values, name_values, names_shown, arc_reply, arc_list, forward_reply, forward_list, ahead_reply, pure_reply, pure_names_shown, interchangeable_reply}
 
 -- What the rules reply on any list.
 module _ (A : Arrays) where
@@ -19,8 +20,8 @@ module _ (A : Arrays) where
   abbrev pub AheadIn : List ℕ → ℕ → Result (Option Ahead) Reason → Type 0
   AheadIn l x r = (P : Problem) → Poses P A → told_by look_values reason_told r ≡ ahead_reply P l x
 
-  abbrev pub PureIn : List ℕ → ℕ → Result ℕ Reason → Type 0
-  PureIn l x r = (P : Problem) → Poses P A → told_by mask_values reason_told r ≡ pure_reply P l x
+  abbrev pub PureIn : List ℕ → ℕ → Result PureNames Reason → Type 0
+  PureIn l x r = (P : Problem) → Poses P A → (told_by name_values reason_told r ≡ pure_reply P l x) × (names_shown r ≡ pure_names_shown P l x)
 
   abbrev pub InterchangeableIn : List ℕ → ℕ → Result ℕ Reason → Type 0
   InterchangeableIn l x r = (P : Problem) → Poses P A → told_by mask_values reason_told r ≡ interchangeable_reply P l x

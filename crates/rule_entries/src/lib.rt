@@ -3,7 +3,7 @@
 #![tactic(auto)]
 
 ghost use Rattle.std.specs.Prelude.{◌≡◌};
-ghost use Rattle.rule_entries.specs.Alone.{told, told_check, told_look, told_values, arc_told, arc_left, forward_told, forward_left, ahead_told, pure_told, interchangeable_told};
+ghost use Rattle.rule_entries.specs.Alone.{told, told_check, told_look, told_values, told_pure, names_shown, arc_told, arc_left, forward_told, forward_left, ahead_told, pure_told, pure_shown, interchangeable_told};
 
 mod arc_alone;
 mod forward_alone;
@@ -15,6 +15,7 @@ use forward_alone::{ahead_in, forward_in};
 use narrow_alone::{interchangeable_in, pure_in};
 use refusal::Refusal;
 pub use rule_forward::Ahead;
+pub use rule_narrow::PureNames;
 
 // Rule 1: whether it is a loss. The list is left without dead values, also in a loss.
 pub fn arc(f: &[u8], list: &mut [u16]) -> Result<bool, Refusal>
@@ -48,9 +49,11 @@ pub fn look_ahead(f: &[u8], list: &[u16], x: usize) -> Result<Option<Ahead>, Ref
     Ok(ahead_in(&arrays, list, x)?)
 }
 
-// Rule 4: the pure values of variable x.
-pub fn pure(f: &[u8], list: &[u16], x: usize) -> Result<u16, Refusal>
-    ensures { told_values result ≡ pure_told f.now list.now x }
+// Rule 4: the pure values of variable x; and for each other value of its mask in the list the first variable, in order of play and x left
+// out, and the first value of it, that it does not go with.
+pub fn pure(f: &[u8], list: &[u16], x: usize) -> Result<PureNames, Refusal>
+    ensures told { told_pure result ≡ pure_told f.now list.now x }
+    ensures shown { names_shown result ≡ pure_shown f.now list.now x }
 {
     let arrays = decode(f)?;
     Ok(pure_in(&arrays, list, x)?)

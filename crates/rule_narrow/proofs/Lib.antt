@@ -6,5 +6,7 @@ pub mod PureLaws
 pub mod InterchangeLaws
 -- The narrowing of rule 4.
 pub mod PurgeLaws
+-- Its names.
+pub mod NameLaws
 -- Both rules on the words of a turn.
 pub mod NextLaws

@@ -18,15 +18,10 @@ use Rattle.game.specs.Lists.{domains}
 use Rattle.game.specs.Pure.{is_pure, pure}
 use Rattle.solver_arrays.specs.Arrays.{row_in, common_in, States}
 use Rattle.solver_arrays.specs.Words.{list_in}
-use Rattle.solver_arrays.proofs.RowLaws.{common_lt}
+use Rattle.solver_arrays.proofs.RowLaws.{full, common_lt}
 use Rattle.solver_arrays.proofs.Stated.{domain_of_lem, neighbours}
 use Rattle.rule_narrow.specs.Narrow.{common_to_all}
 use Rattle.solver_arrays.specs.declared.arrays.Arrays.{Arrays}
-
--- Every value passes.
-full : mask_of 16 (λ a. true) ≡ 65535
-unfolding mask_of
-full = refl
 
 -- Value a of x goes with every value of j.
 abbrev goes : Arrays → ℕ → List ℕ → ℕ → ℕ → Bool
@@ -53,19 +48,22 @@ module _ (A : Arrays) (x : ℕ) (w : List ℕ) where
       ∙ ap (λ y. bit_and y (mask_of 16 (λ a. each 32 (bit (rest m)) (goes A x w a))))
       (sym (mask_of_bits 16 _ (common_lt A j x (get_or w j 0))))
 
-  -- One more neighbour; nothing is left; no more neighbours.
+  -- One more neighbour has passed; nothing is left among its values; no more neighbours.
   pub common_next :
-      (out m all j r m' : ℕ) → out < 2 ^ 16 → m < 2 ^ 32 → ¬ (m ≡ 0) → j ≡ first 32 (bit m) → r ≡ common_in A j (get_or w j 0) x → m' ≡ rest m
-      → all ≡ bit_and out (common_to_all A x w m) → all ≡ bit_and (bit_and out r) (common_to_all A x w m')
-  common_next out m all j r m' o h z f g q e =
+      (out m all j out' m' : ℕ) → out < 2 ^ 16 → m < 2 ^ 32 → ¬ (m ≡ 0) → j ≡ first 32 (bit m) → out' ≡ bit_and out (common_in A j (get_or w j 0) x) → m' ≡ rest m
+      → all ≡ bit_and out (common_to_all A x w m) → all ≡ bit_and out' (common_to_all A x w m')
+  common_next out m all j out' m' o h z f g q e =
       e ∙ ap (bit_and out) (common_to_rest m h z) ∙ sym (and_assoc 16 out _ _ o)
-      ∙ ap₂ (λ y v. bit_and (bit_and out y) (common_to_all A x w v)) (sym (g ∙ ap (λ i. common_in A i (get_or w i 0) x) f)) (sym q)
+      ∙ ap₂ (λ y v. bit_and y (common_to_all A x w v)) (sym (g ∙ ap (λ i. bit_and out (common_in A i (get_or w i 0) x)) f)) (sym q)
 
-  pub common_stop : (out m all : ℕ) → out ≡ 0 → all ≡ bit_and out (common_to_all A x w m) → 0 ≡ all
-  common_stop out m all z e = sym (e ∙ ap (λ y. bit_and y (common_to_all A x w m)) z ∙ and_zero_l (common_to_all A x w m))
+  pub stop_within : (out m all v j : ℕ) → out < 2 ^ 16 → m < 2 ^ 32 → ¬ (m ≡ 0) → j ≡ first 32 (bit m)
+      → (y : ℕ) → bit_and out (common_in A j (get_or w j 0) x) ≡ bit_and v y → v ≡ 0 → all ≡ bit_and out (common_to_all A x w m) → 0 ≡ all
+  stop_within out m all v j o h z f y g q e =
+      sym (common_next out m all j (bit_and out (common_in A j (get_or w j 0) x)) (rest m) o h z f refl refl e
+      ∙ ap (λ t. bit_and t (common_to_all A x w (rest m))) (g ∙ ap (λ t. bit_and t y) q ∙ and_zero_l y) ∙ and_zero_l (common_to_all A x w (rest m)))
 
-  pub common_end : (out m all : ℕ) → out < 2 ^ 16 → m ≡ 0 → all ≡ bit_and out (common_to_all A x w m) → out ≡ all
-  common_end out m all h z e = sym (e ∙ ap (λ y. bit_and out (common_to_all A x w y)) z ∙ ap (bit_and out) common_to_none ∙ and_mask out 16 ∙ mod-eq_of_lt h)
+  pub none_left : (out m all : ℕ) → out < 2 ^ 16 → m ≡ 0 → all ≡ bit_and out (common_to_all A x w m) → out ≡ all
+  none_left out m all h z e = sym (e ∙ ap (λ y. bit_and out (common_to_all A x w y)) z ∙ ap (bit_and out) common_to_none ∙ and_mask out 16 ∙ mod-eq_of_lt h)
 
 module _ (P : Problem) (n : ℕ) (A : Arrays) (S : States P n A) (x : ℕ) (l : x < n) (w : List ℕ) (small : get_or w x 0 < 2 ^ 16) where
   -- A value goes with the whole domain of j.

@@ -15,7 +15,7 @@ use Rattle.mask.proofs.Masks.{mask_of_same, mask_of_lt, mask_of_bits, bit-mask_o
 use Rattle.mask.proofs.Members.{low_lt, low_in}
 use Rattle.game.specs.Problem.{Problem}
 use Rattle.game.specs.Lists.{domains}
-use Rattle.game.specs.Pure.{lowest, is_pure, pure, purged}
+use Rattle.game.specs.Pure.{lowest, is_pure, pure, purged, is_impure}
 use Rattle.theory.proofs.Narrowings.{lowest_mask}
 
 -- The smallest value of a mask alone; of an empty mask none.
@@ -32,7 +32,7 @@ unfolding lowest
 lowest_eq f g e a h = ap₂ (λ b s. b && not s) (e a h) (some-over a f g (λ b. true) (λ k l. e k (omega arith)))
 
 -- A mask has a member where it is not zero.
-some_member : (m : ℕ) → m < 2 ^ 16 → some 16 (bit m) (λ b. true) ≡ not (eqb m 0)
+pub some_member : (m : ℕ) → m < 2 ^ 16 → some 16 (bit m) (λ b. true) ≡ not (eqb m 0)
 some_member m h = sym (ap not (empty-some 16 m h) ∙ not-not (some 16 (bit m) (λ b. true)))
 
 -- The four cases, for a variable x with the pure values p and the domain d.
@@ -50,25 +50,27 @@ module _ (P : Problem) (x : ℕ) (l : List ℕ) (p d : ℕ) (ep : p ≡ pure P x
   unfolding pure
   pure_lt = rw ep (mask_of_lt 16 _)
 
-  other_bit : (a : ℕ) → a < 16 → bit (diff d p) a ≡ (domains l x a && not (is_pure P (domains l) x a))
-  other_bit a h = bit-diff d p a ∙ ap₂ (λ b c. b && not c) (domain-bit a) (pure-bit a h)
+  pub impure-bit : (a : ℕ) → a < 16 → bit (diff d p) a ≡ is_impure P (domains l) x a
+  unfolding is_impure
+  impure-bit a h = bit-diff d p a ∙ ap₂ (λ b c. b && not c) (domain-bit a) (pure-bit a h)
 
   -- Some value is pure; some value is not.
   any_pure : some 16 (is_pure P (domains l) x) (λ b. true) ≡ not (eqb p 0)
   any_pure = some-over 16 (is_pure P (domains l) x) (bit p) (λ b. true) (λ k h. sym (pure-bit k h)) ∙ some_member p pure_lt
 
   any_other : some 16 (domains l x) (λ b. not (is_pure P (domains l) x b)) ≡ not (eqb (diff d p) 0)
+  unfolding is_impure
   any_other =
       some_joint 16 (domains l x) (λ b. not (is_pure P (domains l) x b))
-      ∙ some-over 16 (λ k. domains l x k && not (is_pure P (domains l) x k)) (bit (diff d p)) (λ b. true) (λ k h. sym (other_bit k h))
+      ∙ some-over 16 (λ k. domains l x k && not (is_pure P (domains l) x k)) (bit (diff d p)) (λ b. true) (λ k h. sym (impure-bit k h))
       ∙ some_member (diff d p) (diff_lt 16 d p small)
 
   -- Universal: the others stay, or the smallest of all. Existential: all stay, or the smallest pure one.
   pub others_stay : P.universal x ≡ true → ¬ (diff d p ≡ 0) → diff d p ≡ mask_of 16 (purged P (domains l) x)
-  unfolding purged
+  unfolding purged is_impure
   others_stay s z =
       mask_of_bits 16 (diff d p) (diff_lt 16 d p small)
-      ∙ mask_of_same 16 _ _ λ a h. other_bit a h ∙ sym (rw (s, any_other, ne_eqb (diff d p) 0 z) refl)
+      ∙ mask_of_same 16 _ _ λ a h. impure-bit a h ∙ sym (rw (s, any_other, ne_eqb (diff d p) 0 z) refl)
 
   pub one_stays : P.universal x ≡ true → diff d p ≡ 0 → mask_of 16 (lowest (bit d)) ≡ mask_of 16 (purged P (domains l) x)
   unfolding purged

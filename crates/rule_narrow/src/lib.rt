@@ -1,5 +1,6 @@
-// Rules 4 and 5 on the words of a turn: the masks that they reply at a variable, and its domain narrowed by them. Only neighbours are
-// looked at. It rests on `solver_arrays`. Every public function here is for `rule_entries` and `search_steps`.
+// Rules 4 and 5 on the words of a turn: the masks that they reply at a variable, and its domain narrowed by them; only neighbours are looked
+// at. `names` has rule 4 with names, over all variables. It rests on `solver_arrays`. Every public function here is for `rule_entries` and
+// `search_steps`.
 #![tactic(auto)]
 
 ghost use Rattle.std.specs.Prelude.{◌≡◌, cond, ◌<◌, ◌≤◌, ◌^◌, length};
@@ -7,20 +8,28 @@ ghost use Rattle.mask.specs.Mask.{bit, mask_of};
 ghost use Rattle.game.specs.Pure.{lowest as smallest};
 ghost use Rattle.rule_narrow.specs.Narrow.{same_row, interchange_in, some_interchange, is_representative, RepliesPure, RepliesInterchangeable, Purges, LeavesPure, LeavesInterchangeable, NarrowsNext};
 
+mod names;
+
 use mask::{contains, difference, lowest, members_of, single};
+pub use names::{PureNames, pure_names};
 use solver_arrays::Arrays;
 
-// Rule 4: the pure values of x. Its neighbours ascending, their values ascending; what is left is met with each row.
-pub fn pure_values(arrays: &Arrays, x: usize, w: &[u16]) -> u16
+// Rule 4, the pure values of x. The two loops are the two "for all" of source document 000, definition 2: the variables in order of play, and
+// the values of each, ascending; all values of x are tested at once, as a mask, until none is left. The first loop leaves out x, which is no
+// neighbour of its own, and each variable that no constraint joins to x: "a pair without a table is free", so every value of x goes with all
+// of that variable's.
+fn pure_values(arrays: &Arrays, x: usize, w: &[u16]) -> u16
     requires { (x < arrays.now.n) × (96 ≤ length w.now) }
     ensures { RepliesPure arrays.now x w.now result }
 {
     let mut out = w[x];
     for j in members_of(arrays.neighbours(x)) {
-        if out == 0 {
-            return 0;
+        for b in members_of(w[j]) {
+            out &= arrays.row(j, b, x);
+            if out == 0 {
+                return 0;
+            }
         }
-        out &= arrays.common(j, w[j], x);
     }
     out
 }
@@ -38,7 +47,7 @@ fn smallest_of(m: u16) -> u16
 
 // The narrowing that rule 4 names: an existential variable keeps the smallest pure value, if there is one; a universal
 // one keeps the values that are not pure, and the smallest where all are.
-pub fn purged_values(pure: u16, domain: u16, universal: bool) -> u16
+fn purged_values(pure: u16, domain: u16, universal: bool) -> u16
     ensures { Purges pure domain universal result }
 {
     if universal {

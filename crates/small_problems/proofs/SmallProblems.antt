@@ -3,7 +3,7 @@ use Prim.Native.Nat.{ℕ}
 use mathlib.Core.Path.{◌≡◌, refl}
 use mathlib.Core.List.{[], ◌∷◌, ◌++◌}
 use lib.ListN.{replicate}
-use Rattle.mask.specs.Range.{some, each, count}
+use Rattle.mask.specs.Range.{some, each, count, first}
 use Rattle.mask.specs.Mask.{bit, mask_of}
 use Rattle.refusal.specs.Chain.{◌then◌, need, only, placed}
 use Rattle.file_layout.specs.Numbers.{counts_fit, in_order, pair_of, row_fits, rows_fit, constraint_fits}
@@ -20,11 +20,12 @@ use Rattle.game.specs.Open.{goes_with_plays, plays_clash, existential_empty, uni
 use Rattle.game.specs.Winning.{verdict, winning_values}
 use Rattle.game.specs.Support.{clashes, alone, empty}
 use Rattle.game.specs.Arc.{dead, barred, arc_loss, sweep, swept, arc}
-use Rattle.game.specs.Pure.{is_pure, pure}
+use Rattle.game.specs.Pure.{is_pure, pure, is_impure, clash_variable, clash_value}
 use Rattle.game.specs.Interchangeable.{interchange, representatives, interchangeable}
 use Rattle.rule_lend.specs.Lend.{list_test, variable_test}
 use Rattle.refusal.specs.Replied.{replied_for, list_for}
-use Rattle.rule_entries.specs.Alone.{arc_reply, arc_list, pure_reply, interchangeable_reply}
+use Rattle.buffer.specs.Stored.{joined}
+use Rattle.rule_entries.specs.Alone.{arc_reply, arc_list, names_told, pure_reply, interchangeable_reply}
 use Rattle.session.specs.History.{list_told, list_opened}
 use Rattle.history.specs.Replay.{list_marked}
 use Rattle.small_problems.specs.Files.{words, variables, constraints, file}
@@ -44,11 +45,11 @@ unfolding some each bit mask_of ◌then◌ need only placed counts_fit in_order 
 reading = tt
 
 game : Unit {0}
-unfolding count put turn satisfied won wins domains list_of masks_of within may_lend wins_over narrowed position without_last after_call standing_from standing goes_with_plays plays_clash existential_empty universal_clash stuck is_open open_values open_counts verdict winning_values clashes alone empty dead barred arc_loss sweep swept arc is_pure pure interchange representatives interchangeable
+unfolding count first put turn satisfied won wins domains list_of masks_of within may_lend wins_over narrowed position without_last after_call standing_from standing goes_with_plays plays_clash existential_empty universal_clash stuck is_open open_values open_counts verdict winning_values clashes alone empty dead barred arc_loss sweep swept arc is_pure pure is_impure clash_variable clash_value interchange representatives interchangeable
 game = tt
 
 replies : Unit {0}
-unfolding domain_of universal_of found allows list_test variable_test replied_for list_for arc_reply arc_list pure_reply interchangeable_reply spread list_told list_opened list_marked plainly
+unfolding domain_of universal_of found allows list_test variable_test replied_for list_for arc_reply arc_list joined names_told pure_reply interchangeable_reply spread list_told list_opened list_marked plainly
 replies = tt
 
 checking : Unit {0}

@@ -100,10 +100,10 @@ abbrev G4 : Row
 G4 = fresh (file (existential 3 ∷ universal 3 ∷ []) (between 0 1 low ∷ []))
     (judging gives yes ∷ marking gives good 1 3 ∷ arc (3 ∷ 3 ∷ []) gives no_loss ∷ arc_leaving (3 ∷ 3 ∷ []) gives replied (1 ∷ 3 ∷ []) ∷ [])
 
--- "G5: shift, shift; same table. Yes; both good, though 0 is pure."
+-- "G5: shift, shift; same table. Yes; both good, though 0 is pure." Value 1 does not go with value 0 of variable 1.
 abbrev G5 : Row
 G5 = fresh (file (existential 3 ∷ existential 3 ∷ []) (between 0 1 low ∷ []))
-    (judging gives yes ∷ marking gives good 3 3 ∷ pure_at 0 (3 ∷ 3 ∷ []) gives number 1 ∷ [])
+    (judging gives yes ∷ marking gives good 3 3 ∷ pure_at 0 (3 ∷ 3 ∷ []) gives replied (1 ∷ 1 ∷ 1 ∷ 0 ∷ []) ∷ [])
 
 -- "G6: day, day, shift; choices 1 and 2 must be equal; option 0 of choice 0 goes with both of choice 2, option 1 with 1 only. No; 0 good,
 -- 1 bad."

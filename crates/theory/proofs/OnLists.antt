@@ -4,13 +4,13 @@ use mathlib.Core.Bool.{Bool, true, false, cond, not, ◌&&◌}
 use mathlib.Core.List.{List}
 use Prim.Native.Nat.{ℕ, zero, suc, ◌*◌, ◌<◌}
 use native.Mathlib.Omega.{arith}
-use lib.Dec.{T, eqb, eqb→eq, ltb, lt→ltb, ltb→lt}
+use lib.Dec.{T, T_not, not_T, eqb, eqb→eq, eqb_refl, ltb, lt→ltb, ltb→lt}
 use lib.ListN.{get_or, set}
 use borrow.Author.Tests.{eqb-true}
 use Rattle.mask.specs.Range.{some, first}
 use Rattle.mask.specs.Mask.{bit, diff, mask_of}
 use Rattle.mask.proofs.Logic.{same, holds, fails, clash, test, by_eq, and_in, and_out}
-use Rattle.mask.proofs.Range.{some_out, first_least, first_in}
+use Rattle.mask.proofs.Range.{some_out, some_in, first_least, first_in, first_none}
 use Rattle.mask.proofs.Bits.{bit-diff}
 use Rattle.mask.proofs.Masks.{mask_of_lt, diff_lt}
 use Rattle.game.specs.Problem.{Problem}
@@ -20,7 +20,8 @@ use Rattle.game.specs.Arc.{dead, sweep, sweeps, swept, arc}
 use Rattle.game.specs.Removals.{Removal, Removals, none, more, NoneDead}
 use Rattle.game.specs.Forward.{forward_domains, forward_fails, forward_loss, forward, forward_named}
 use Rattle.game.specs.LookAhead.{ahead_loss, look_ahead, ahead_named}
-use Rattle.game.specs.Pure.{purged, purge}
+use Rattle.game.specs.Support.{clashes}
+use Rattle.game.specs.Pure.{is_pure, purged, purge, is_impure, clash_variable, clash_value}
 use Rattle.game.specs.Interchangeable.{representatives, interchangeable, represent}
 use Rattle.theory.proofs.Moves.{replace_at, replace_off}
 use Rattle.theory.proofs.Transfer.{In}
@@ -237,6 +238,50 @@ module _ (P : Problem) where
   purge_law l w x h =
       over-start P l ∙ Pure.pure_law P (domains l) x h (λ _. w.full x h)
       ∙ sym (over-start P (purge P x l) ∙ ap (start P) (domains-purge x l h w.masks))
+
+  -- The names for a value that is not pure: another variable and a value of it that it does not go with; it goes with all values of earlier
+  -- variables, and with all earlier values of this one.
+  pub clash_named_lem : (x a : ℕ) (l : List ℕ) → T (is_impure P (domains l) x a)
+      → let j = clash_variable P (domains l) x a in
+      let b = clash_value P (domains l) x a in
+      (j < n) × ¬ (j ≡ x) × (b < 16) × T (domains l j b) × (compatible x a j b ≡ false)
+      × ((i c : ℕ) → i < j → ¬ (i ≡ x) → c < 16 → T (domains l i c) → T (compatible x a i c))
+      × ((c : ℕ) → c < b → T (domains l j c) → T (compatible x a j c))
+  unfolding clashes clash_variable clash_value
+  clash_named_lem x a l t =
+      let f : ℕ → Bool = λ j. not (eqb j x) && clashes P (domains l) x a j in
+      let r = some_out n (λ j. not (eqb j x)) (clashes P (domains l) x a) (and_out (domains l x a) (some n (λ j. not (eqb j x)) (clashes P (domains l) x a)) (rw (Pure.impure_is P (domains l) x a) at t)).1 in
+      let e = first_in n f r.0 r.1 (and_in (not (eqb r.0 x)) (clashes P (domains l) x a r.0) r.2 r.3) in
+      let j = first n f in
+      let s = and_out (not (eqb j x)) (clashes P (domains l) x a j) e.1 in
+      let g : ℕ → Bool = λ b. domains l j b && not (compatible x a j b) in
+      let q = some_out 16 (domains l j) (λ b. not (compatible x a j b)) s.1 in
+      let k = first_in 16 g q.0 q.1 (and_in (domains l j q.0) (not (compatible x a j q.0)) q.2 q.3) in
+      let b = first 16 g in
+      let v = and_out (domains l j b) (not (compatible x a j b)) k.1 in (
+        e.0,
+        λ z. T_not (eqb j x) s.0 (rw z (eqb_refl x)),
+        k.0,
+        v.0,
+        fails {b = compatible x a j b} (T_not (compatible x a j b) v.1),
+        λ i c h ne m u. test (compatible x a i c) (λ z. z) λ z. absurd (clash {b = f i} (first_least n f i h)
+            (and_in (not (eqb i x)) (clashes P (domains l) x a i) (not_T (eqb i x) (λ y. ne (eqb→eq i x y))) (some_in 16 (domains l i) (λ b. not (compatible x a i b)) c m u (rw z tt)))),
+        λ c h m. test (compatible x a j c) (λ z. z) λ z. absurd (clash {b = g c} (first_least 16 g c h) (and_in (domains l j c) (not (compatible x a j c)) m (rw z tt))),
+      )
+
+  -- A pure value has no name.
+  pub clash_none_lem : (x a : ℕ) (l : List ℕ) → Masks n l → T (is_pure P (domains l) x a) → (clash_variable P (domains l) x a ≡ n) × (clash_value P (domains l) x a ≡ 16)
+  unfolding clashes clash_variable clash_value
+  clash_none_lem x a l w t =
+      let f : ℕ → Bool = λ j. not (eqb j x) && clashes P (domains l) x a j in
+      let e : first n f ≡ n = first_none n f λ j h. fails {b = f j} λ u.
+      let s = and_out (not (eqb j x)) (clashes P (domains l) x a j) u in
+      let r = some_out 16 (domains l j) (λ b. not (compatible x a j b)) s.1 in
+      T_not (compatible x a j r.0) r.3 (Pure.pure_out P (domains l) x a t j h (λ z. T_not (eqb j x) s.0 (rw z (eqb_refl x))) r.0 (r.1, r.2)) in (
+        e,
+        first_none 16 (λ b. domains l (first n f) b && not (compatible x a (first n f) b)) λ b h. fails λ u.
+            let v = domains_boxed n l w (first n f) b (and_out (domains l (first n f) b) (not (compatible x a (first n f) b)) u).0 in let k = v.0 in absurd (omega arith),
+      )
 
   -- The list of rule 5, and its law.
   pub domains-represent : (x : ℕ) (l : List ℕ) → x < n → Masks n l → domains (represent P x l) ≡ replace (domains l) x (representatives P (domains l) x)

@@ -1,12 +1,13 @@
 -- Rule 4 (pure): its narrowing keeps the verdict.
-use mathlib.Core.Path.{◌≡◌, refl}
-use mathlib.Core.Bool.{Bool, true, false, cond, not, ◌&&◌}
+use mathlib.Core.Path.{◌≡◌, refl, ap, ◌∙◌}
+use mathlib.Core.Bool.{Bool, true, false, cond, not, ◌&&◌, not-not}
 use Prim.Native.Nat.{ℕ, zero, suc, ◌<◌}
 use native.Mathlib.Omega.{arith}
 use lib.Dec.{T, not_T, eqb, eqb→eq}
-use Rattle.game.specs.Pure.{lowest, is_pure, purged}
+use Rattle.game.specs.Pure.{lowest, is_pure, purged, is_impure}
+use Rattle.game.specs.Support.{clashes}
 use Rattle.mask.proofs.Logic.{clash, test, and_in, and_out}
-use Rattle.mask.proofs.Range.{each_out, some_out, some_in}
+use Rattle.mask.proofs.Range.{each_out, each_eq, each_none, some_eq, some_out, some_in}
 use Rattle.mask.specs.Range.{some, each}
 use Rattle.game.specs.Game.{replace, Domains}
 use Rattle.game.specs.Problem.{Problem}
@@ -43,6 +44,21 @@ module _ (P : Problem) where
   pub pure_in : (D : Domains) (x a : ℕ) → T (is_pure P D x a) → T (D x a)
   unfolding is_pure
   pure_in D x a t = (and_out (D x a) (each n (λ j. not (eqb j x)) (λ j. each 16 (D j) (λ b. compatible x a j b))) t).0
+
+  -- A value of the domain is not pure exactly where it clashes with a value of another variable.
+  pub impure_is : (D : Domains) (x a : ℕ) → is_impure P D x a ≡ (D x a && some n (λ j. not (eqb j x)) (clashes P D x a))
+  unfolding is_impure is_pure clashes
+  impure_is D x a = ap (λ (b : Bool). D x a && not (D x a && b)) no_clash ∙ go (D x a) (some n (λ j. not (eqb j x)) (clashes P D x a))
+    where
+      no_clash : each n (λ j. not (eqb j x)) (λ j. each 16 (D j) (λ b. compatible x a j b)) ≡ not (some n (λ j. not (eqb j x)) (clashes P D x a))
+      no_clash =
+          each_eq n (λ j. not (eqb j x)) (λ j. each 16 (D j) (λ b. compatible x a j b)) (λ j. not (clashes P D x a j)) (λ j h. each_none 16 (D j) (λ b. compatible x a j b))
+          ∙ each_none n (λ j. not (eqb j x)) (λ j. not (clashes P D x a j))
+          ∙ ap not (some_eq n (λ j. not (eqb j x)) (λ j. not (not (clashes P D x a j))) (clashes P D x a) (λ j h. not-not (clashes P D x a j)))
+
+      go : (d s : Bool) → (d && not (d && not s)) ≡ (d && s)
+      go true s = not-not s
+      go false s = refl
 
   -- What rule 4 leaves is a part of the domain, and not empty at a universal variable.
   pub purged_in : (D : Domains) (x a : ℕ) → T (purged P D x a) → T (D x a)

@@ -1,4 +1,4 @@
--- Each theorem at a small problem of document 01, what the rules that the table of small_problems does not ask for compute there, and the two
+-- Each theorem at a small problem of document 01, what the rules that the table of small_problems does not ask for compute there, and
 -- plausible and wrong readings of rules.
 use mathlib.Core.Path.{◌≡◌, refl, sym, ap, ◌∙◌}
 use mathlib.Core.Bool.{Bool, true, false, cond, not, ◌&&◌, ◌||◌}
@@ -25,7 +25,7 @@ use Rattle.game.specs.Arc.{dead, barred, arc_loss, sweep, swept, arc}
 use Rattle.game.specs.Removals.{Removals, none, more}
 use Rattle.game.specs.Forward.{forward_domains, forward_loss, forward, forward_named}
 use Rattle.game.specs.LookAhead.{ahead_loss, look_ahead, ahead_named}
-use Rattle.game.specs.Pure.{lowest, is_pure, purged, pure, purge}
+use Rattle.game.specs.Pure.{lowest, is_pure, purged, pure, purge, is_impure, clash_variable, clash_value}
 use Rattle.game.specs.Interchangeable.{interchange, representatives, interchangeable, represent}
 use Rattle.game.specs.Turn.{first_list, next_list, checks, ahead, narrow_pure, narrow_interchangeable, next_rules, reached}
 use Rattle.theory.specs.TurnList.{AtTurn}
@@ -247,6 +247,19 @@ g3_pure_lends : T (may_lend G3 (purge G3 0 ones))
 unfolding each within may_lend
 g3_pure_lends = Theorems.pure_may_lend G3 ones tt 0 (omega arith)
 
+-- Card 5: for value 1 of G5's variable 0, value 0 of variable 1 is named; value 0 is pure.
+pure_named : (clash_variable G5 (domains full) 0 1 ≡ 1) × (clash_value G5 (domains full) 0 1 ≡ 0)
+unfolding some bit first domains clashes clash_variable clash_value
+pure_named = (refl, refl)
+
+g5_names : G5.compatible 0 1 (clash_variable G5 (domains full) 0 1) (clash_value G5 (domains full) 0 1) ≡ false
+unfolding each within may_lend bit domains is_pure is_impure
+g5_names = (Theorems.pure-names G5 full tt 0 (omega arith) 1 tt).4
+
+g5_unnamed : (clash_variable G5 (domains full) 0 0 ≡ 2) × (clash_value G5 (domains full) 0 0 ≡ 16)
+unfolding each within may_lend bit domains is_pure
+g5_unnamed = Theorems.pure_unnamed G5 full tt 0 (omega arith) 0 tt
+
 g4_interchangeable : wins_over G4 full ≡ wins_over G4 (set full 1 (interchangeable G4 1 full))
 unfolding each within may_lend
 g4_interchangeable = Theorems.interchangeable-verdict G4 full tt 1 (omega arith)
@@ -317,3 +330,15 @@ wrong_forward_lem = (refl, refl)
 wrong_pure : (wins_over G3 (purge G3 0 (3 ∷ 1 ∷ 1 ∷ [])) ≡ false) × (wins_over G3 (set (3 ∷ 1 ∷ 1 ∷ []) 0 (diff 3 (pure G3 0 (3 ∷ 1 ∷ 1 ∷ [])))) ≡ true)
 unfolding some each put turn satisfied won wins bit diff mask_of domains wins_over lowest is_pure purged pure purge
 wrong_pure = (refl, refl)
+
+-- The first clash is not the last: value 0 of G6's variable 2 clashes with variable 0 and with variable 1; where no two values go together, for
+-- value 0 of variable 0 value 0 of variable 1 is named, and not value 1. With G5's table read the other way round, value 1 of variable 0 would
+-- have no name.
+abbrev never : Problem
+never = mk_problem (λ i. false) full tt every (λ i a j b. false)
+
+wrong_names : (clash_variable G6 (domains G6.domain) 2 0 ≡ 0) × (clashes G6 (domains G6.domain) 2 0 1 ≡ true)
+    × (clash_variable never (domains full) 0 0 ≡ 1) × (clash_value never (domains full) 0 0 ≡ 0) × (never.compatible 0 0 1 1 ≡ false)
+    × (some 16 (domains full 1) (λ b. not (G5.compatible 0 b 1 1)) ≡ false)
+unfolding some bit first domains clashes clash_variable clash_value
+wrong_names = (refl, refl, refl, refl, refl, refl)

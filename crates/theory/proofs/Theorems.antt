@@ -27,7 +27,7 @@ use Rattle.game.specs.Arc.{arc, arc_loss}
 use Rattle.game.specs.Removals.{Removals, NoneDead}
 use Rattle.game.specs.Forward.{forward_fails, forward, forward_named}
 use Rattle.game.specs.LookAhead.{look_ahead, ahead_named}
-use Rattle.game.specs.Pure.{pure, purge}
+use Rattle.game.specs.Pure.{is_pure, pure, purge, is_impure, clash_variable, clash_value}
 use Rattle.game.specs.Interchangeable.{interchangeable, represent}
 use Rattle.game.specs.Turn.{first_list, next_list, checks, reached, turn_named}
 use Rattle.game.specs.Reasons.{Sheet, idle, chain, choose, explain_checks, arc_conflict, explained}
@@ -163,6 +163,20 @@ module _ (P : Problem) where
 
       pub pure_all : universal x ≡ true → diff (get_or l x 0) (pure P x l) ≡ 0 → wins_over P l ≡ wins_over P (narrow_to l x (first 16 (domains l x)))
       pure_all s e = let v = lent.full x lx in pure-verdict ∙ ap (wins_over P) (Narrowings.purge_all P l lent.masks x lx s v.0 v.1 e)
+
+      -- Card 5. "The first choice and option in that order which it does not go with": for a value that is not pure a value of another variable is
+      -- named that it does not go with; it goes with every value of an earlier variable, and with every earlier value of this one.
+      pub pure-names : (a : ℕ) → T (is_impure P (domains l) x a)
+          → let j = clash_variable P (domains l) x a in
+          let b = clash_value P (domains l) x a in
+          (j < n) × ¬ (j ≡ x) × (b < 16) × T (domains l j b) × (compatible x a j b ≡ false)
+          × ((i c : ℕ) → i < j → ¬ (i ≡ x) → c < 16 → T (domains l i c) → T (compatible x a i c))
+          × ((c : ℕ) → c < b → T (domains l j c) → T (compatible x a j c))
+      pure-names a t = OnLists.clash_named_lem P x a l t
+
+      -- "And nothing for the others": for a pure value there is no name.
+      pub pure_unnamed : (a : ℕ) → T (is_pure P (domains l) x a) → (clash_variable P (domains l) x a ≡ n) × (clash_value P (domains l) x a ≡ 16)
+      pure_unnamed a t = OnLists.clash_none_lem P x a l lent.masks t
 
       -- Rule 5, at every variable. "The reply is the mask of the smallest of each group. Narrowing keeps the verdict."
       pub interchangeable-verdict : wins_over P l ≡ wins_over P (set l x (interchangeable P x l))

@@ -18,7 +18,7 @@ fn told(rule: Rule, f: &[u8], list: &mut [u16], x: usize, a: usize) -> Result<us
         Rule::Arc => Ok(arc(f, list)? as usize),
         Rule::ForwardCheck => Ok(forward_check(f, list, x, a)?.is_some() as usize),
         Rule::LookAhead => Ok(look_ahead(f, list, x)?.is_some() as usize),
-        Rule::Pure => Ok(pure(f, list, x)? as usize),
+        Rule::Pure => Ok(pure(f, list, x)?.pure as usize),
         Rule::Interchangeable => Ok(interchangeable(f, list, x)? as usize),
     }
 }

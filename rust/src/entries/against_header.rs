@@ -55,7 +55,7 @@ macro_rules! layout {
 #[test]
 fn structs_as_declared() {
     let header = structs(&code());
-    let ours: [(&str, Layout); 17] = [
+    let ours: [(&str, Layout); 18] = [
         ("kb_position", layout!(Position: plays, values)),
         ("kb_reading", layout!(Reading: answer.kind, answer.number, answer.place, n, m, universal, given, rules, domains)),
         ("kb_found", layout!(Found: answer.kind, answer.number, answer.place, found, rows)),
@@ -70,6 +70,7 @@ fn structs_as_declared() {
         ("kb_checked", layout!(Checked: answer.kind, answer.number, answer.place, lost, variable)),
         ("kb_looked", layout!(Looked: answer.kind, answer.number, answer.place, lost, value, variable)),
         ("kb_values", layout!(Values: answer.kind, answer.number, answer.place, values)),
+        ("kb_named_values", layout!(NamedValues: answer.kind, answer.number, answer.place, pure, impure, variables, values)),
         ("kb_searched", layout!(Searched: answer.kind, answer.number, answer.place, won, loss, conflict, list, leaf)),
         ("kb_formula_judgement", layout!(FormulaJudgement: answer.kind, answer.number, answer.place, won, length)),
         ("kb_group_list", layout!(GroupList: answer.kind, answer.number, answer.place, count, group)),

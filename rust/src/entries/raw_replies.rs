@@ -1,4 +1,5 @@
-//! Every field of refused replies: those that say nothing are zero, and a refused play hands its position back.
+//! Every field of refused replies: those that say nothing are zero, and a refused play hands its position back. And every field of rule 4's
+//! finished replies: zero where nothing is named.
 
 use super::*;
 use std::ptr::null;
@@ -43,7 +44,7 @@ fn empty_file_with_any_pointer() {
             assert_eq!(kb_arc(file, 0, words, 3), Ruled { answer, lost: 0 });
             assert_eq!(kb_forward_check(file, 0, words, 3, 9, 99), Checked { answer, ..Default::default() });
             assert_eq!(kb_look_ahead(file, 0, words, 3, 9), Looked { answer, ..Default::default() });
-            assert_eq!(kb_pure(file, 0, words, 3, 9), Values { answer, values: 0 });
+            assert_eq!(kb_pure(file, 0, words, 3, 9), NamedValues { answer, ..Default::default() });
             assert_eq!(kb_interchangeable(file, 0, words, 3, 9), Values { answer, values: 0 });
             assert_eq!(kb_formula(file, 0, bytes, 3), Written { answer, length: 0 });
             assert_eq!(kb_judge_formula(file, 0, bytes, 3), FormulaJudgement { answer, ..Default::default() });
@@ -86,7 +87,7 @@ fn refused_calls_with_any_pointer() {
             let checked = Checked { answer: refused(1, 13), ..Default::default() };
             assert_eq!(kb_forward_check(file, length, words, 0, 0, 5), checked);
             assert_eq!(kb_look_ahead(file, length, words, 0, 0), Looked { answer: refused(1, 13), ..Default::default() });
-            assert_eq!(kb_pure(file, length, words, 0, 0), Values { answer: refused(1, 13), values: 0 });
+            assert_eq!(kb_pure(file, length, words, 0, 0), NamedValues { answer: refused(1, 13), ..Default::default() });
             assert_eq!(kb_interchangeable(file, length, words, 0, 0), Values { answer: refused(1, 13), values: 0 });
             assert_eq!(kb_report(file, length, bytes, 0), Written { answer: refused(1, 12), length: 0 });
             assert_eq!(kb_formula(file, length, bytes, 0), Written { answer: refused(1, 12), length: 0 });
@@ -99,5 +100,29 @@ fn refused_calls_with_any_pointer() {
             assert_eq!(written(1, null(), 0), Written { answer: refused(1, 13), length: 0 });
             assert_eq!(written(1, &32, 1), Written { answer: refused(1, 12), length: 0 });
         }
+    }
+}
+
+/// G5 of document 01: value 1 of variable 0 and value 0 of variable 1 do not go together. In each of the two names a number is 0, which must
+/// not read as none.
+#[test]
+fn zero_without_a_name() {
+    let mut file = b"QP\x02\x01\x00VE\x03\x00VE\x03\x00CT\x00\x01\x03\x00\x02\x00".to_vec();
+    file.extend([0; 28]);
+    file.extend(b"EN");
+    let pure = |list: [u16; 2], x| {
+        // SAFETY: file and list are lent as they are long.
+        unsafe { kb_pure(file.as_ptr(), file.len(), list.as_ptr(), list.len(), x) }
+    };
+    let mut shown = NamedValues { pure: 1, impure: 2, ..Default::default() };
+    shown.variables[1] = 1;
+    assert_eq!(pure([3, 3], 0), shown);
+    let mut shown = NamedValues { pure: 2, impure: 1, ..Default::default() };
+    shown.values[0] = 1;
+    assert_eq!(pure([3, 3], 1), shown);
+    assert_eq!(pure([3, 2], 0), NamedValues { pure: 3, ..Default::default() });
+    assert_eq!(pure([3, 2], 1), NamedValues { pure: 2, ..Default::default() });
+    for x in [2, 32, 1 << 32, u64::MAX] {
+        assert_eq!(pure([3, 3], x), NamedValues { answer: refused(1, 11), ..Default::default() });
     }
 }

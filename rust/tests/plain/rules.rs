@@ -98,6 +98,15 @@ impl Problem {
         those(list[x], |a| (0..list.len()).all(|k| k == x || self.partners(list, x, a, k) == list[k]))
     }
 
+    /// Card 5 of document 02: each value of x with the first variable, in order of play and x left out, and its first value, ascending, that
+    /// it does not go with. The pure values go with all.
+    pub fn clashes(&self, list: &[u16], x: usize) -> Vec<(u8, usize, u8)> {
+        let others = (0..list.len()).filter(|k| *k != x);
+        let all: Vec<(usize, u8)> = others.flat_map(|k| values(list[k]).map(move |b| (k, b))).collect();
+        let first = |a: u8| all.iter().find(|(k, b)| !self.goes_with(x, a, *k, *b)).map(|(k, b)| (a, *k, *b));
+        values(list[x]).filter_map(first).collect()
+    }
+
     /// Rule 5: the smallest of each group of interchangeable values.
     pub fn interchangeable(&self, list: &[u16], x: usize) -> u16 {
         let alike = |a: u8, b: u8| (0..list.len()).all(|k| k == x || self.partners(list, x, a, k) == self.partners(list, x, b, k));

@@ -5,22 +5,31 @@ use Rattle.refusal.specs.declared.reason.Refusal.TheVariants.{InFile, InCall}
 use Rattle.refusal.specs.Told.{reason_told, told_by}
 use Rattle.file_decoder.proofs.ReadLaws.{read_refused}
 use Rattle.rule_entries.proofs.EntryLaws.{read_given}
-use Rattle.rule_entries.specs.Alone.{mask_values, told_values, pure_told}
+use Rattle.rule_entries.specs.Alone.{name_values, told_pure, names_shown, pure_told, pure_shown}
 use Rattle.rule_entries.proofs.pure.Goals as goal
 
 pub returns-in_err-arrays : goal.returns-in_err-arrays
-unfolding pure_told
+unfolding pure_told pure_shown
 returns-in_err-arrays c =
     let q : c.from_residual.result ≡ Err (InFile c.in_err-arrays.field-0.0) = search rules in
     let z = c.decode.ensures.refused _ c.in_err-arrays.was in
-    ap told_values q ∙ sym (read_refused _ _ _ _ z)
+    record { told = ap told_pure q ∙ sym (read_refused _ _ _ _ z); shown = ap names_shown q ∙ sym (read_refused _ _ _ _ z) }
 
 pub returns-in_err-pure_in : goal.returns-in_err-pure_in
-unfolding pure_told
+unfolding pure_told pure_shown
 returns-in_err-pure_in c =
     let q : c.from_residual-in_err-pure_in.result ≡ Err (InCall c.in_err-pure_in.field-0.0) = search rules in
-    ap told_values q ∙ sym (ap (told_by mask_values reason_told) c.in_err-pure_in.was) ∙ read_given c.decode.ensures c.in_ok-arrays.was _ _ c.pure_in.ensures
+    let w = c.in_err-pure_in.was in
+    record {
+      told = ap told_pure q ∙ sym (ap (told_by name_values reason_told) w) ∙ read_given c.decode.ensures c.in_ok-arrays.was _ _ (λ P h. (c.pure_in.ensures P h).0);
+      shown = ap names_shown q ∙ sym (ap names_shown w) ∙ read_given c.decode.ensures c.in_ok-arrays.was _ _ (λ P h. (c.pure_in.ensures P h).1);
+    }
 
 pub returns : goal.returns
-unfolding pure_told
-returns c = sym (ap (told_by mask_values reason_told) c.in_ok-pure_in.was) ∙ read_given c.decode.ensures c.in_ok-arrays.was _ _ c.pure_in.ensures
+unfolding pure_told pure_shown
+returns c =
+    let w = c.in_ok-pure_in.was in
+    record {
+      told = sym (ap (told_by name_values reason_told) w) ∙ read_given c.decode.ensures c.in_ok-arrays.was _ _ (λ P h. (c.pure_in.ensures P h).0);
+      shown = sym (ap names_shown w) ∙ read_given c.decode.ensures c.in_ok-arrays.was _ _ (λ P h. (c.pure_in.ensures P h).1);
+    }
