@@ -1,20 +1,16 @@
--- Rule 4's reply: what is told of the names by their arrays is what is told of the game, and what is shown behind the tests.
+-- Rule 4's reply: what is told of the names by their arrays is what is told of the game.
 use Prim.Native.Nat.{ℕ}
-use mathlib.Core.Path.{◌≡◌, refl, sym, ap, ◌∙◌}
+use mathlib.Core.Path.{◌≡◌, refl, ap}
 use mathlib.Core.Bool.{Bool, true, false, cond}
 use mathlib.Core.List.{List, [], ◌∷◌}
-use Rattle.std.specs.Prelude.{Ok, Err}
 use Rattle.mask.proofs.Masks.{bit-mask_of}
 use Rattle.buffer.proofs.StoredLaws.{joined_same}
-use Rattle.refusal.specs.declared.reason.Reason.{Reason}
-use Rattle.refusal.specs.Chain.{Test}
 use Rattle.game.specs.Problem.{Problem}
 use Rattle.game.specs.Lists.{domains}
 use Rattle.game.specs.Pure.{pure, is_impure, clash_variable, clash_value}
 use Rattle.theory.proofs.Lists.{get_d_list_of}
 use Rattle.rule_narrow.specs.Names.{pure_names}
-use Rattle.rule_narrow.specs.declared.names.PureNames.{PureNames}
-use Rattle.rule_entries.specs.Alone.{name_values, names_told, no_names, shown_for}
+use Rattle.rule_entries.specs.Alone.{name_values, names_told}
 
 -- A value with its two names, where it is named.
 pub told_pure_names : (P : Problem) (x : ℕ) (l : List ℕ) → name_values (pure_names P x l) ≡ pure P x l ∷ names_told P l x
@@ -31,13 +27,3 @@ told_pure_names P x l =
     either : (b : Bool) (a j v : ℕ) → cond b (a ∷ cond b j 0 ∷ cond b v 0 ∷ []) [] ≡ cond b (a ∷ j ∷ v ∷ []) []
     either true a j v = refl
     either false a j v = refl
-
--- Behind the tests: nothing where they refuse, the names where they are fine.
-module _ {v : Test} (t : Test) (r : PureNames) where
-  pub shown_refused : {e : Reason} → v ≡ t → v ≡ Err e → no_names ≡ shown_for t r
-  unfolding shown_for
-  shown_refused s q = sym (ap (λ (w : Test). shown_for w r) (sym s ∙ q))
-
-  pub shown_told : {u : Unit {0}} {o : PureNames} → v ≡ t → v ≡ Ok u → o ≡ r → o ≡ shown_for t r
-  unfolding shown_for
-  shown_told s q e = e ∙ sym (ap (λ (w : Test). shown_for w r) (sym s ∙ q))

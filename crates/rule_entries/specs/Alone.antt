@@ -5,7 +5,7 @@ use Rattle.buffer.specs.Stored.{joined}
 use Rattle.refusal.specs.declared.reason.Refusal.{Refusal}
 use Rattle.refusal.specs.Chain.{Test}
 use Rattle.refusal.specs.Told.{Told, fault_told, refusal_told, told_by}
-use Rattle.refusal.specs.Replied.{replied_for, list_for}
+use Rattle.refusal.specs.Replied.{passed, replied_for, list_for}
 use Rattle.game.specs.Problem.{Problem}
 use Rattle.game.specs.Lists.{domains, may_lend}
 use Rattle.game.specs.Arc.{arc}
@@ -62,10 +62,6 @@ abbrev pub names_shown : {E : Type 0} → Result PureNames E → PureNames
 names_shown (Ok r) = r
 names_shown (Err e) = no_names
 
-unfoldable pub shown_for : Test → PureNames → PureNames
-shown_for (Ok u) r = r
-shown_for (Err e) r = no_names
-
 -- What is told of a loss with what it names, or of none: "With no loss, both are absent."
 unfoldable pub loss_named : Bool → List ℕ → List ℕ
 loss_named lost names = cond lost (1 ∷ names) (0 ∷ [])
@@ -112,7 +108,7 @@ module _ (P : Problem) (l : List ℕ) where
   pure_reply x = replied_for (variable_test (may_lend P l) n x) (pure P x l ∷ names_told x)
 
   unfoldable pub pure_names_shown : ℕ → PureNames
-  pure_names_shown x = shown_for (variable_test (may_lend P l) n x) (pure_names P x l)
+  pure_names_shown x = names_shown (passed (variable_test (may_lend P l) n x) (pure_names P x l))
 
   unfoldable pub interchangeable_reply : ℕ → Told
   interchangeable_reply x = mask_for (variable_test (may_lend P l) n x) (interchangeable P x l)

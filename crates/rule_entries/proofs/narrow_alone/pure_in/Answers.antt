@@ -4,11 +4,11 @@ use Prim.Native.Nat.{◌<◌}
 use native.Mathlib.Omega.{arith}
 use Rattle.std.specs.Prelude.{Err}
 use Rattle.refusal.specs.Told.{reason_told, told_by}
-use Rattle.refusal.proofs.RepliedLaws.{reply_refused, reply_told}
+use Rattle.refusal.proofs.RepliedLaws.{reply_refused, reply_told, passed_stops, passed_goes}
 use Rattle.rule_lend.proofs.LendLaws.{LentList, variable_fine, variable_same, words_hold, words_long}
 use Rattle.rule_narrow.specs.Names.{pure_names}
 use Rattle.rule_entries.specs.Alone.{name_values, names_shown, pure_reply, pure_names_shown}
-use Rattle.rule_entries.proofs.NameLaws.{told_pure_names, shown_refused, shown_told}
+use Rattle.rule_entries.proofs.NameLaws.{told_pure_names}
 use Rattle.rule_entries.proofs.narrow_alone.pure_in.Goals as goal
 use Rattle.rule_entries.proofs.narrow_alone.pure_in.Goals.{In_ok-variable_test}
 
@@ -22,7 +22,7 @@ returns-in_err-variable_test c = λ P h.
     let q : c.from_residual.result ≡ Err c.in_err-variable_test.field-0.0 = search rules in
     let s = c.variable_test.ensures ∙ variable_same P _ _ h _ in (
       ap (told_by name_values reason_told) q ∙ reply_refused _ _ s c.in_err-variable_test.was,
-      ap names_shown q ∙ shown_refused _ _ s c.in_err-variable_test.was,
+      ap names_shown (q ∙ passed_stops _ _ s c.in_err-variable_test.was),
     )
 
 pub words_of-w-requires : goal.words_of-w-requires
@@ -39,4 +39,4 @@ returns c = λ P h.
     let l = lent (goal.at.returns c).In_ok-variable_test in
     let s = c.variable_test.ensures ∙ variable_same P _ _ h _ in
     let e = c.pure_names.ensures P h.states ∙ ap (pure_names P _) (words_hold _ _ _ c.words_of-w.ensures l.0.size) in
-    (reply_told _ _ s c.in_ok-variable_test.was (ap name_values e ∙ told_pure_names P _ _), shown_told _ _ s c.in_ok-variable_test.was e)
+    (reply_told _ _ s c.in_ok-variable_test.was (ap name_values e ∙ told_pure_names P _ _), ap names_shown (passed_goes _ _ s c.in_ok-variable_test.was e))
