@@ -12,14 +12,16 @@
 #include <stdarg.h>
 
 typedef enum {
-    INTERFACE, READ, LOOK_UP, WRITE, REPORT, PLAY, TAKE_BACK, SESSION_PLAY, SESSION_TAKE_BACK, OPEN, JUDGE, MARK, JUDGE_IN, MARK_IN, SEARCH,
-    REPLAY, ARC, FORWARD_CHECK, LOOK_AHEAD, PURE, INTERCHANGEABLE, FORMULA, JUDGE_FORMULA, GROUPS, GROUP, ENTRIES
+    INTERFACE, READ, LOOK_UP, WRITE, REPORT, PLAY, TAKE_BACK, LOCK, UNLOCK, SESSION_PLAY, SESSION_TAKE_BACK, SESSION_LOCK, SESSION_UNLOCK,
+    OPEN, JUDGE, MARK, JUDGE_IN, MARK_IN, SEARCH, REPLAY, ARC, FORWARD_CHECK, LOOK_AHEAD, PURE, INTERCHANGEABLE, FORMULA, JUDGE_FORMULA,
+    GROUPS, GROUP, ENTRIES
 } entry;
 
 static const char *const names[ENTRIES] = {
-    "kb_interface", "kb_read", "kb_look_up", "kb_write", "kb_report", "kb_play", "kb_take_back", "kb_session_play", "kb_session_take_back",
-    "kb_open", "kb_judge", "kb_mark", "kb_judge_in", "kb_mark_in", "kb_search", "kb_replay", "kb_arc", "kb_forward_check", "kb_look_ahead",
-    "kb_pure", "kb_interchangeable", "kb_formula", "kb_judge_formula", "kb_groups", "kb_group",
+    "kb_interface", "kb_read", "kb_look_up", "kb_write", "kb_report", "kb_play", "kb_take_back", "kb_lock", "kb_unlock", "kb_session_play",
+    "kb_session_take_back", "kb_session_lock", "kb_session_unlock", "kb_open", "kb_judge", "kb_mark", "kb_judge_in", "kb_mark_in",
+    "kb_search", "kb_replay", "kb_arc", "kb_forward_check", "kb_look_ahead", "kb_pure", "kb_interchangeable", "kb_formula",
+    "kb_judge_formula", "kb_groups", "kb_group",
 };
 
 /* The most bytes that a call is lent, whole pages. */
@@ -38,7 +40,7 @@ typedef struct {
     size_t text_length;
     int soon;
     kb_position position;
-    uint64_t rules, option, i, j, x, a, group;
+    uint64_t rules, option, unlock_to, i, j, x, a, group;
     const uint8_t *calls;
     size_t call_count;
     uint16_t list[40];
@@ -74,7 +76,7 @@ typedef struct {
     uint8_t lent[MOST];
 } outcome;
 
-_Static_assert(sizeof(kb_opened) == 24 + 96 && sizeof(kb_searched) == 48 + 128 && sizeof(kb_moved) == 24 + 40
+_Static_assert(sizeof(kb_opened) == 24 + 96 && sizeof(kb_searched) == 48 + 128 && sizeof(kb_moved) == 24 + 48
                && sizeof(kb_group_list) == 32 + 32 && sizeof(kb_named_values) == 40 + 32, "replies without padding");
 
 enum { DIRT = 0x5a };
@@ -85,7 +87,8 @@ static int threads;
 /* ---- one call */
 
 static int lends_list(entry e) { return e >= ARC && e <= INTERCHANGEABLE; }
-static int lends_session(entry e) { return e == SESSION_PLAY || e == SESSION_TAKE_BACK; }
+static int by_value(entry e) { return e >= PLAY && e <= UNLOCK; }
+static int lends_session(entry e) { return e >= SESSION_PLAY && e <= SESSION_UNLOCK; }
 static int lends_room(entry e) { return e == JUDGE_IN || e == MARK_IN; }
 static int writes_formula(entry e) { return e == FORMULA || e == JUDGE_FORMULA; }
 static size_t room_bytes(const job *j) { return 2 * 128 * (j->n + 1); }
@@ -135,11 +138,17 @@ static void call(entry e, const arguments *g, outcome *o) {
     case REPORT: o->reply.written = kb_report(f, l, g->lent, g->size); break;
     case PLAY: o->reply.moved = kb_play(f, l, g->position, g->option); break;
     case TAKE_BACK: o->reply.moved = kb_take_back(f, l, g->position); break;
+    case LOCK: o->reply.moved = kb_lock(f, l, g->position); break;
+    case UNLOCK: o->reply.moved = kb_unlock(f, l, g->position, g->unlock_to); break;
     case SESSION_PLAY: o->reply.answer = kb_session_play(f, l, (void *)g->lent, g->option); break;
     case SESSION_TAKE_BACK: o->reply.answer = kb_session_take_back(f, l, (void *)g->lent); break;
+    case SESSION_LOCK: o->reply.answer = kb_session_lock(f, l, (void *)g->lent); break;
+    case SESSION_UNLOCK: o->reply.answer = kb_session_unlock(f, l, (void *)g->lent, g->unlock_to); break;
     case OPEN: o->reply.opened = kb_open(f, l, g->position); break;
-    case JUDGE: o->reply.judgement = kb_judge(f, l, g->position.plays, p[0], p[1], p[2], p[3], g->rules); break;
-    case MARK: o->reply.marks = kb_mark(f, l, g->position.plays, p[0], p[1], p[2], p[3], g->rules); break;
+    case JUDGE:
+        o->reply.judgement = kb_judge(f, l, g->position.plays, g->position.depth, p[0], p[1], p[2], p[3], g->rules);
+        break;
+    case MARK: o->reply.marks = kb_mark(f, l, g->position.plays, g->position.depth, p[0], p[1], p[2], p[3], g->rules); break;
     case JUDGE_IN: o->reply.judgement = kb_judge_in(f, l, g->position, g->rules, words, w); break;
     case MARK_IN: o->reply.marks = kb_mark_in(f, l, g->position, g->rules, words, w); break;
     case SEARCH: o->reply.searched = kb_search(f, l, g->position, g->rules); break;
@@ -189,7 +198,7 @@ static int fits_list(const arguments *g) {
 /* Why the entry refuses the call though it accepts the file; 0 where it does not. */
 static uint64_t refused(entry e, const arguments *g) {
     const job *j = g->job;
-    uint64_t plays = g->position.plays;
+    uint64_t plays = g->position.plays, depth = g->position.depth;
     uint32_t groups[32];
     if (e == LOOK_UP) return g->i < g->j && g->j < j->n ? 0 : 11;
     if (e == REPLAY) return g->rules > 127 ? 8 : 0;
@@ -205,7 +214,8 @@ static uint64_t refused(entry e, const arguments *g) {
     if (e >= JUDGE && g->rules > 127) return 8;
     if (!fits(j, &g->position)) return 23;
     if (e == PLAY || e == SESSION_PLAY) return plays == j->n ? 20 : has(j->domains[plays], g->option) ? 0 : 10;
-    if (e == TAKE_BACK || e == SESSION_TAKE_BACK) return plays == 0 ? 21 : 0;
+    if (e == TAKE_BACK || e == SESSION_TAKE_BACK) return plays == 0 ? 21 : plays == depth ? 24 : 0;
+    if (e == UNLOCK || e == SESSION_UNLOCK) return g->unlock_to > depth ? 25 : 0;
     if ((e == MARK || e == MARK_IN) && plays == j->n) return 22;
     return lends_room(e) && g->size < room_bytes(j) ? 12 : 0;
 }
@@ -226,7 +236,7 @@ static size_t append(char *text, size_t at, const char *format, ...) {
 /* The text of the judging program. */
 static size_t text_of(const arguments *g, char *text) {
     const job *j = g->job;
-    kb_position fresh = {0, {0}};
+    kb_position fresh = {0, 0, {0}};
     if (g->number != 0) return append(text, 0, "refused %d at %d\n", (int)g->number, (int)g->place);
     size_t at = append(text, 0, "choices %d\ntables %d\nrules %d\n", (int)j->n, (int)j->m, j->given ? (int)j->rules : 3);
     at = append(text, at, "answer %s\nnext 0 %s\n", verdict(j, fresh) ? "yes" : "no", universal(j, 0) ? "day" : "shift");
@@ -260,6 +270,12 @@ static void searched(const arguments *g, kb_searched *want, const kb_searched *g
     if (!want->won && got->conflict >> g->position.plays == 0) want->conflict = got->conflict;
 }
 
+/* Puts a position into the reply, or into the session. */
+static void moved(entry e, outcome *o, const kb_position *p) {
+    if (lends_session(e)) memcpy(o->lent, p, sizeof *p);
+    else o->reply.moved.position = *p;
+}
+
 /* All that a call must reply and leave. */
 static void expect(entry e, const arguments *g, outcome *o, const outcome *got) {
     static uint8_t bytes[KB_FILE];
@@ -269,7 +285,7 @@ static void expect(entry e, const arguments *g, outcome *o, const outcome *got) 
     uint32_t groups[32];
     memset(&o->reply, 0, sizeof o->reply);
     fill(e, g, o->lent);
-    if (e == PLAY || e == TAKE_BACK) o->reply.moved.position = g->position;
+    if (by_value(e)) moved(e, o, &g->position);
     if (e == INTERFACE) {
         o->reply.interface = KB_INTERFACE;
         return;
@@ -309,16 +325,10 @@ static void expect(entry e, const arguments *g, outcome *o, const outcome *got) 
         written(g, o, bytes, job_length(&own));
         break;
     }
-    case PLAY: case SESSION_PLAY:
-        p.values[p.plays++] = (uint8_t)g->option;
-        if (e == PLAY) o->reply.moved.position = p;
-        else memcpy(o->lent, &p, sizeof p);
-        break;
-    case TAKE_BACK: case SESSION_TAKE_BACK:
-        p.values[--p.plays] = 0;
-        if (e == TAKE_BACK) o->reply.moved.position = p;
-        else memcpy(o->lent, &p, sizeof p);
-        break;
+    case PLAY: case SESSION_PLAY: p.values[p.plays++] = (uint8_t)g->option, moved(e, o, &p); break;
+    case TAKE_BACK: case SESSION_TAKE_BACK: p.values[--p.plays] = 0, moved(e, o, &p); break;
+    case LOCK: case SESSION_LOCK: p.depth = p.plays, moved(e, o, &p); break;
+    case UNLOCK: case SESSION_UNLOCK: p.depth = g->unlock_to, moved(e, o, &p); break;
     case OPEN: open_options(j, &p, &o->reply.opened); break;
     case JUDGE_IN: memset(o->lent, 0, room_bytes(j)); /* fall through */
     case JUDGE: o->reply.judgement.won = (uint64_t)verdict(j, p); break;
@@ -343,7 +353,7 @@ static void expect(entry e, const arguments *g, outcome *o, const outcome *got) 
         memcpy(o->lent, g->text, g->text_length);
         break;
     case JUDGE_FORMULA:
-        o->reply.formula_judgement.won = (uint64_t)verdict(j, (kb_position){0, {0}}), o->reply.formula_judgement.length = g->text_length;
+        o->reply.formula_judgement.won = (uint64_t)verdict(j, (kb_position){0, 0, {0}}), o->reply.formula_judgement.length = g->text_length;
         memcpy(o->lent, g->text, g->text_length);
         break;
     case GROUPS:
@@ -408,7 +418,7 @@ static uint8_t bytes[KB_FILE + 1], formula[MOST];
 
 /* An ordinary call on this job, its file in `bytes` and its formula's text in `formula`. */
 static arguments ordinary(const job *j) {
-    static const uint8_t calls[] = {0, 2, 255, 255, 255, 2, 7, 15};
+    static const uint8_t calls[] = {0, 254, 2, 255, 255, 193, 192, 255, 255, 254, 2, 7, 15, 195};
     arguments g = {.job = j, .file = bytes, .length = job_length(j), .text = formula, .rules = 127, .j = 1, .calls = calls,
                    .call_count = sizeof calls, .n = j->n, .m = j->m, .given = j->given, .set = j->rules, .universal = j->universal,
                    .domains = j->domains, .domain_count = j->n, .tables = j->tables, .table_count = TABLE * j->m};
@@ -463,12 +473,12 @@ static void some_job(job *j) {
 }
 
 static kb_position some_position(const job *j, uint64_t plays) {
-    kb_position p = {plays, {0}};
+    kb_position p = {plays, drawn() % (plays + 1), {0}};
     for (uint64_t k = 0; k < plays && k < j->n; k++) p.values[k] = (uint8_t)some_option(j->domains[k]);
     return p;
 }
 
-/* This many plays, some list and some numbers that the job allows. */
+/* This many plays, some depth, some list and some numbers that the job allows. */
 static void some_numbers(arguments *g, uint64_t plays) {
     const job *j = g->job;
     uint32_t groups[32];
@@ -477,7 +487,7 @@ static void some_numbers(arguments *g, uint64_t plays) {
         g->list[k] = j->domains[k] & (uint16_t)drawn();
         if (g->list[k] == 0) g->list[k] = j->domains[k];
     }
-    g->rules = drawn() % 128, g->option = some_option(j->domains[plays % j->n]);
+    g->rules = drawn() % 128, g->option = some_option(j->domains[plays % j->n]), g->unlock_to = drawn() % (g->position.depth + 1);
     g->j = drawn() % j->n, g->i = g->j ? drawn() % g->j : 0;
     g->x = drawn() % j->n, g->a = some_option(g->list[g->x]);
     g->group = drawn() % groups_of(j, groups);
@@ -519,9 +529,13 @@ static void allowed(void) {
         some_job(&made);
         arguments g = ordinary(&made);
         some_numbers(&g, drawn() % (made.n + 1));
-        uint8_t calls[12];
-        for (size_t k = 0; k < sizeof calls; k++)
-            calls[k] = drawn() % 3 == 0 ? 255 : drawn() % 5 == 0 ? (uint8_t)drawn() : (uint8_t)some_option(made.domains[0]);
+        uint8_t calls[24];
+        for (size_t k = 0; k < sizeof calls; k++) {
+            static const uint8_t locks[] = {254, 254, 192, 193, 194, 195};
+            uint64_t kind = drawn() % 15;
+            calls[k] = kind < 5 ? 255 : kind < 8 ? locks[drawn() % sizeof locks] : kind < 9 ? (uint8_t)drawn()
+                     : (uint8_t)some_option(made.domains[0]);
+        }
         g.call_count = drawn() % (sizeof calls + 1);
         for (int way = 0; way < WAYS; way++) {
             g.file = lend_copy(FILES, way, bytes, g.length);
@@ -553,7 +567,10 @@ static void cuts_of(const job *j, size_t by) {
         int longer = length > job_length(j);
         h.length = length, h.number = longer ? 9 : 1, h.place = longer ? job_length(j) : cut_record(j, length);
         for (int wrong = 0; wrong < 2; wrong++) {
-            if (wrong) h.rules = 256, h.position.plays = UINT64_MAX, h.list[0] = 0, h.i = h.x = h.a = h.option = h.group = UINT64_MAX;
+            if (wrong) {
+                h.rules = 256, h.list[0] = 0;
+                h.position.plays = h.position.depth = h.unlock_to = h.i = h.x = h.a = h.option = h.group = UINT64_MAX;
+            }
             for (int way = 0; way < WAYS; way++) {
                 h.file = lend_copy(FILES, way, bytes, length);
                 for (entry e = 0; e < ENTRIES; e++) {
@@ -585,11 +602,11 @@ static uint64_t edge(uint64_t k) {
     return from[k / AROUND] + k % AROUND - 2;
 }
 
-enum { NUMBERS = 13 };
+enum { NUMBERS = 15 };
 
 static uint64_t *number_of(arguments *g, uint64_t which) {
-    uint64_t *const all[NUMBERS] = {&g->rules, &g->option, &g->i, &g->j, &g->x, &g->a, &g->group, &g->position.plays, &g->n, &g->m,
-                                    &g->given, &g->set, &g->universal};
+    uint64_t *const all[NUMBERS] = {&g->rules, &g->option, &g->unlock_to, &g->i, &g->j, &g->x, &g->a, &g->group, &g->position.plays,
+                                    &g->position.depth, &g->n, &g->m, &g->given, &g->set, &g->universal};
     return all[which];
 }
 
@@ -654,6 +671,28 @@ static void positions(void) {
         g = ordinary(&made);
         g.position = some_position(&made, 28 + round % 5);
         for (entry e = PLAY; e <= SEARCH; e++) attempt_with("a long game", e, g, HEAP, ordinary_size(e, &g));
+    }
+}
+
+/* Every depth that fits, one above the plays and the largest. Whatever judges, marks, opens or searches replies the same at each that
+   fits. */
+static void depths(void) {
+    static outcome unheld, held;
+    for (uint64_t round = 0; round < 300; round += step(15)) {
+        some_job(&made);
+        arguments g = ordinary(&made);
+        some_numbers(&g, drawn() % (made.n + 1));
+        uint64_t plays = g.position.plays;
+        for (entry e = PLAY; e <= SEARCH; e++)
+            for (uint64_t depth = 0; depth <= plays + 2; depth++) {
+                arguments h = g;
+                h.position.depth = depth <= plays + 1 ? depth : UINT64_MAX;
+                attempt_with("a depth", e, h, HEAP, ordinary_size(e, &h));
+                if (e < OPEN || depth > plays) continue;
+                h.size = ordinary_size(e, &h), h.lent = lend(LENT, HEAP, h.size);
+                call(e, &h, depth == 0 ? &unheld : &held);
+                if (depth != 0) compare("another depth", e, &held.reply, &unheld.reply, sizeof held.reply);
+            }
     }
 }
 
@@ -726,7 +765,7 @@ static void sizes(void) {
     for (int way = 0; way < WAYS; way++) {
         make_job(&made, 3, 0x8005, 30, 100, 20);
         arguments g = ordinary(&made);
-        g.position = (kb_position){1, {2}};
+        g.position = (kb_position){1, 1, {2}};
         for (size_t size = 0; size <= job_length(&made) + 40; size++) attempt_with("a buffer", WRITE, g, way, size);
         for (size_t size = 0; size <= KB_TEXT; size += size < 200 ? 1 : 103) attempt_with("a buffer", REPORT, g, way, size);
         for (size_t size = 0; size <= g.text_length + 40; size += step(20)) {
@@ -927,6 +966,7 @@ int main(int count, char **words) {
     numbers();
     several();
     positions();
+    depths();
     wrong_lists();
     formulas();
     splits();

@@ -1,6 +1,6 @@
 /* The game and the first five rules on the numbers of a job, each as document 01 words it, for small jobs, the text of the job's formula,
-   as card 1 of document 02 words it, its groups, as card 4 does, and what rule 4 names, as card 5 does: a plain model beside which the
-   entries are tried. It shares nothing with the library. */
+   as card 1 of document 02 words it, its groups, as card 4 does, what rule 4 names, as card 5 does, and the position that calls reach,
+   as card 6 does: a plain model beside which the entries are tried. It shares nothing with the library. */
 #ifndef MODEL_H
 #define MODEL_H
 
@@ -32,7 +32,7 @@ static uint16_t going(const job *j, uint64_t i, unsigned a, uint64_t k, uint16_t
 }
 
 static int fits(const job *j, const kb_position *p) {
-    if (p->plays > j->n) return 0;
+    if (p->plays > j->n || p->depth > p->plays) return 0;
     for (uint64_t k = 0; k < 32; k++)
         if (k < p->plays ? !has(j->domains[k], p->values[k]) : p->values[k] != 0) return 0;
     return 1;
@@ -168,12 +168,16 @@ static uint16_t unlike_smaller(const job *j, const uint16_t *list, uint64_t x) {
     return mask;
 }
 
-/* The position that calls reach, by the plain list of the plays that stand. */
+/* The position that calls reach, by the plain list of the plays that stand and the depth beside it. */
 static kb_position standing(const job *j, const uint8_t *calls, size_t count) {
-    kb_position p = {0, {0}};
+    kb_position p = {0, 0, {0}};
     for (size_t c = 0; c < count; c++)
         if (calls[c] == 255) {
-            if (p.plays > 0) p.values[--p.plays] = 0;
+            if (p.plays != p.depth) p.values[--p.plays] = 0;
+        } else if (calls[c] == 254) {
+            p.depth = p.plays;
+        } else if (calls[c] >= 192) {
+            if (calls[c] - 192u <= p.depth) p.depth = calls[c] - 192u;
         } else if (p.plays < j->n && has(j->domains[p.plays], calls[c])) p.values[p.plays++] = calls[c];
     return p;
 }

@@ -1,10 +1,12 @@
-/* A panel in the terminal: shows what a job file says, then plays it as standard input tells, with the verdict, the marks and the open
-   options after each command.
+/* A panel in the terminal: shows what a job file says, then plays it as standard input tells, with the verdict, how many plays are held,
+   the marks and the open options after each command.
 
        panel FILE
 
        play 3       plays option 3 of the next choice
        back         takes the last play back
+       lock         holds all plays, so that none can be taken back
+       unlock 2     holds the first 2 plays alone, where so many are held
        open         shows the open options of every choice
        rules 111    judges and marks under this rule set from now on
        quit         ends, as the end of input does
@@ -56,6 +58,7 @@ static void show_state(void) {
     kb_marks marks = kb_mark_in(file, length, session, rules, room, KB_ROOM);
     kb_opened opened = kb_open(file, length, session);
     printf("answer %s\n", judgement.won ? "yes" : "no");
+    if (session.depth != 0) printf("held %" PRIu64 "\n", session.depth);
     if (marks.kind != KB_FINISHED) {
         printf("all choices are played\n");
         return;
@@ -73,6 +76,8 @@ static void show_refusal(uint64_t number) {
                       : number == 10 ? "option not in the mask"
                       : number == 20 ? "all choices are played"
                       : number == 21 ? "no choice is played"
+                      : number == 24 ? "all plays are held"
+                      : number == 25 ? "fewer plays are held"
                                      : "unexpected";
     printf("refused %" PRIu64 ": %s\n", number, why);
 }
@@ -91,6 +96,15 @@ static void play(uint64_t option) {
 static void take_back(uint64_t unused) {
     (void)unused;
     show_answer(kb_session_take_back(file, length, &session));
+}
+
+static void lock(uint64_t unused) {
+    (void)unused;
+    show_answer(kb_session_lock(file, length, &session));
+}
+
+static void unlock(uint64_t number) {
+    show_answer(kb_session_unlock(file, length, &session, number));
 }
 
 static void show_open(uint64_t unused) {
@@ -117,7 +131,8 @@ static const struct {
     const char *word;
     int numbers;
     void (*run)(uint64_t number);
-} commands[] = {{"play", 1, play}, {"back", 0, take_back}, {"open", 0, show_open}, {"rules", 1, use_rules}, {"quit", 0, NULL}};
+} commands[] = {{"play", 1, play},      {"back", 0, take_back},  {"lock", 0, lock}, {"unlock", 1, unlock},
+                {"open", 0, show_open}, {"rules", 1, use_rules}, {"quit", 0, NULL}};
 
 enum { COMMANDS = sizeof commands / sizeof commands[0], QUIT = COMMANDS - 1, NONE = -1 };
 

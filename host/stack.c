@@ -10,10 +10,10 @@ static job made;
 static uint8_t file[KB_FILE], buffer[KB_FILE], formula[KB_FORMULA];
 static size_t length;
 static uint64_t rules;
-static const kb_position fresh, played = {3, {0}};
+static const kb_position fresh, played = {3, 1, {0}};
 static kb_session session;
 static uint16_t list[32], room[KB_ROOM];
-static const uint8_t calls[] = {0, 1, 255, 0, 9, 255, 255};
+static const uint8_t calls[] = {0, 254, 1, 255, 0, 9, 192, 255, 255};
 static volatile uint64_t sink;
 
 /* Every entry on a file of 32 choices, and one field of its reply; kb_judge_formula by itself. */
@@ -25,11 +25,15 @@ static volatile uint64_t sink;
     X(kb_report, kb_report(file, length, buffer, KB_TEXT).length)                                                                         \
     X(kb_play, kb_play(file, length, fresh, 0).answer.kind)                                                                               \
     X(kb_take_back, kb_take_back(file, length, played).answer.kind)                                                                       \
+    X(kb_lock, kb_lock(file, length, played).answer.kind)                                                                                 \
+    X(kb_unlock, kb_unlock(file, length, played, 0).answer.kind)                                                                          \
     X(kb_session_play, kb_session_play(file, length, &session, 0).kind)                                                                   \
+    X(kb_session_lock, kb_session_lock(file, length, &session).kind)                                                                      \
+    X(kb_session_unlock, kb_session_unlock(file, length, &session, 0).kind)                                                               \
     X(kb_session_take_back, kb_session_take_back(file, length, &session).kind)                                                            \
     X(kb_open, kb_open(file, length, played).masks[31])                                                                                   \
-    X(kb_judge, kb_judge(file, length, 0, 0, 0, 0, 0, rules).won)                                                                         \
-    X(kb_mark, kb_mark(file, length, 0, 0, 0, 0, 0, rules).winning)                                                                       \
+    X(kb_judge, kb_judge(file, length, 0, 0, 0, 0, 0, 0, rules).won)                                                                      \
+    X(kb_mark, kb_mark(file, length, 0, 0, 0, 0, 0, 0, rules).winning)                                                                    \
     X(kb_judge_in, kb_judge_in(file, length, fresh, rules, room, KB_ROOM).won)                                                            \
     X(kb_mark_in, kb_mark_in(file, length, fresh, rules, room, KB_ROOM).winning)                                                          \
     X(kb_search, kb_search(file, length, fresh, rules).won)                                                                               \

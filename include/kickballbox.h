@@ -26,7 +26,8 @@
        2 Mark     6 Order   10 Option    21 Bare     a take-back when none is played
        3 Count    7 Stray   11 Choice    22 Done     marks asked when all choices are played
        4 Domain   8 Rules   12 Room      23 Misfit   a position that the file does not allow
-                            13 List
+                            13 List      24 Locked   a take-back when all plays are held
+                                         25 Depth    an unlock to more plays than are held
 
    11 Choice is also the number of a group that the file does not have (kb_group).
 
@@ -49,7 +50,7 @@ extern "C" {
 
 /* Raised by every change of a function or a struct below. A program asks `kb_interface() == KB_INTERFACE` once, before any other
    call: else header and library are not of one make. */
-#define KB_INTERFACE 5
+#define KB_INTERFACE 6
 
 #define KB_FINISHED 0
 #define KB_REFUSED 1
@@ -67,14 +68,16 @@ extern "C" {
 /* Bytes of buffer that suffice for every text of kb_formula. Computed and not proved; a text that did not fit would be refused with 12. */
 #define KB_FORMULA 4131214
 
-/* A position: how many choices are played, and 32 places, the options played in order of play and zero elsewhere. The fresh
-   position is all zero. Any contents may be handed in: what the file does not allow is refused with 23. */
+/* A position: how many choices are played, how many of these plays, the first ones, are held (the lock depth), and 32 places, the options
+   played in order of play and zero elsewhere. The fresh position is all zero. Any contents may be handed in: what the file does not allow
+   is refused with 23, and so is a depth above the plays. Marks, open options and verdicts do not depend on the depth. */
 typedef struct {
     uint64_t plays;
+    uint64_t depth;
     uint8_t values[32];
 } kb_position;
 
-/* A position that is lent to kb_session_play and kb_session_take_back, which alter it. */
+/* A position that is lent to kb_session_play, kb_session_take_back, kb_session_lock and kb_session_unlock, which alter it. */
 typedef kb_position kb_session;
 
 /* What a file says. Bit k of `universal` is set where choice k is the day's; bit a of domains[k] where option a is in the mask
@@ -115,7 +118,8 @@ typedef struct {
     uint64_t place;
 } kb_answer;
 
-/* What a play or a take-back answers, and the position that it leads to: of a refused call the one that it was given. */
+/* What a play, a take-back, a lock or an unlock answers, and the position that it leads to: of a refused call the one that it was
+   given. */
 typedef struct {
     kb_answer answer;
     kb_position position;
@@ -257,15 +261,23 @@ kb_written kb_report(const uint8_t *file, size_t length, uint8_t *buffer, size_t
 
 /* ---- plays */
 
-/* Plays this option of the next choice. Refuses the file; then 23; 20; 10 (an option that is not in the choice's mask). */
+/* Plays this option of the next choice; the depth stays. Refuses the file; then 23; 20; 10 (an option that is not in the choice's mask). */
 kb_moved kb_play(const uint8_t *file, size_t length, kb_position position, uint64_t option);
 
-/* Takes the last play back. Refuses the file; then 23; 21. */
+/* Takes the last play back; the depth stays. Refuses the file; then 23; 21; 24 (all plays are held). */
 kb_moved kb_take_back(const uint8_t *file, size_t length, kb_position position);
+
+/* Holds all plays: sets the depth to their number. Refuses the file; then 23. */
+kb_moved kb_lock(const uint8_t *file, size_t length, kb_position position);
+
+/* Holds the first `number` plays alone: sets the depth to this number. Refuses the file; then 23; 25 (fewer plays are held). */
+kb_moved kb_unlock(const uint8_t *file, size_t length, kb_position position, uint64_t number);
 
 /* The same on a session, which is left as it was where the call is refused. */
 kb_answer kb_session_play(const uint8_t *file, size_t length, kb_session *session, uint64_t option);
 kb_answer kb_session_take_back(const uint8_t *file, size_t length, kb_session *session);
+kb_answer kb_session_lock(const uint8_t *file, size_t length, kb_session *session);
+kb_answer kb_session_unlock(const uint8_t *file, size_t length, kb_session *session, uint64_t number);
 
 /* The open options of every choice, those still usable: a played one's own option, all of a day's choice, and of a shift's choice
    those that go with every play. Nothing is usable at any unplayed choice if two plays clash, if no option of an unplayed shift's
@@ -274,14 +286,14 @@ kb_opened kb_open(const uint8_t *file, size_t length, kb_position position);
 
 /* ---- judging */
 
-/* Whether the position is won under this rule set. The position comes as numbers: the plays, and the 32 places packed into four, eight
-   each, the lowest byte first: place k is byte k % 8 of number k / 8. Refuses the file; then 8 (a rule set above 127); 23. */
-kb_judgement kb_judge(const uint8_t *file, size_t length, uint64_t plays, uint64_t places0, uint64_t places1, uint64_t places2,
-                      uint64_t places3, uint64_t rules);
+/* Whether the position is won under this rule set. The position comes as numbers: the plays, the depth, and the 32 places packed into
+   four, eight each, the lowest byte first: place k is byte k % 8 of number k / 8. Refuses the file; then 8 (a rule set above 127); 23. */
+kb_judgement kb_judge(const uint8_t *file, size_t length, uint64_t plays, uint64_t depth, uint64_t places0, uint64_t places1,
+                      uint64_t places2, uint64_t places3, uint64_t rules);
 
 /* Marks the options of the next choice. Refuses the file; then 8; 23; 22. */
-kb_marks kb_mark(const uint8_t *file, size_t length, uint64_t plays, uint64_t places0, uint64_t places1, uint64_t places2,
-                 uint64_t places3, uint64_t rules);
+kb_marks kb_mark(const uint8_t *file, size_t length, uint64_t plays, uint64_t depth, uint64_t places0, uint64_t places1,
+                 uint64_t places2, uint64_t places3, uint64_t rules);
 
 /* The same of a position by value, in lent room, 16-bit numbers of any contents: the 128·(n + 1) words that a call needs are zero
    afterwards, those behind them as they were. Refuse as above, and last with 12 (fewer words). */
@@ -291,8 +303,9 @@ kb_marks kb_mark_in(const uint8_t *file, size_t length, kb_position position, ui
 /* What a search from the position finds under this rule set. Refuses as kb_judge does. */
 kb_searched kb_search(const uint8_t *file, size_t length, kb_position position, uint64_t rules);
 
-/* Runs calls from the fresh position, each a byte: 255 a take-back, any other a play of that option; a refused one changes nothing.
-   Replies kb_mark and kb_open of the position reached, each with its own refusals: 8 and 22 are those of the marks alone. */
+/* Runs calls from the fresh position, each a byte: 255 a take-back, 254 a lock, 192 to 253 an unlock to that number less 192, any other
+   a play of that option; a refused one changes nothing. Replies kb_mark and kb_open of the position reached, each with its own refusals:
+   8 and 22 are those of the marks alone. */
 kb_replayed kb_replay(const uint8_t *file, size_t length, const uint8_t *calls, size_t call_count, uint64_t rules);
 
 /* ---- rules alone

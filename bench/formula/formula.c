@@ -179,7 +179,7 @@ static int time_judge(const char *name, double *per) {
     size_t bytes = written();
     int won = plain();
     if (won == 2) wrong("too many calls");
-    kb_judgement game = kb_judge(file, length, 0, 0, 0, 0, 0, SET);
+    kb_judgement game = kb_judge(file, length, 0, 0, 0, 0, 0, 0, SET);
     double began = now();
     for (int r = 0; again(r, began); r++) {
         double t = now();

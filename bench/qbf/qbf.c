@@ -59,7 +59,7 @@ static void compare(const char *name) {
     if (kb_read(file, length).kind != KB_FINISHED) return;
     accepted++;
     kb_written w = kb_formula(file, length, text, KB_FORMULA);
-    kb_judgement j = kb_judge(file, length, 0, 0, 0, 0, 0, RULES);
+    kb_judgement j = kb_judge(file, length, 0, 0, 0, 0, 0, 0, RULES);
     snprintf(path, sizeof path, "%s/%s.qdimacs", folder, name);
     FILE *out = fopen(path, "wb");
     if (!out || fwrite(text, 1, w.length, out) != w.length || fclose(out) != 0) {

@@ -157,12 +157,18 @@ extern "C" {
 
     pub fn kb_play(file: *const u8, length: usize, position: Position, value: u64) -> Moved;
     pub fn kb_take_back(file: *const u8, length: usize, position: Position) -> Moved;
+    pub fn kb_lock(file: *const u8, length: usize, position: Position) -> Moved;
+    pub fn kb_unlock(file: *const u8, length: usize, position: Position, number: u64) -> Moved;
     pub fn kb_session_play(file: *const u8, length: usize, session: *mut Position, value: u64) -> Answer;
     pub fn kb_session_take_back(file: *const u8, length: usize, session: *mut Position) -> Answer;
+    pub fn kb_session_lock(file: *const u8, length: usize, session: *mut Position) -> Answer;
+    pub fn kb_session_unlock(file: *const u8, length: usize, session: *mut Position, number: u64) -> Answer;
     pub fn kb_open(file: *const u8, length: usize, position: Position) -> Opened;
 
-    pub fn kb_judge(file: *const u8, length: usize, plays: u64, a: u64, b: u64, c: u64, d: u64, rules: u64) -> Judgement;
-    pub fn kb_mark(file: *const u8, length: usize, plays: u64, a: u64, b: u64, c: u64, d: u64, rules: u64) -> Marks;
+    pub fn kb_judge(
+        file: *const u8, length: usize, plays: u64, depth: u64, a: u64, b: u64, c: u64, d: u64, rules: u64,
+    ) -> Judgement;
+    pub fn kb_mark(file: *const u8, length: usize, plays: u64, depth: u64, a: u64, b: u64, c: u64, d: u64, rules: u64) -> Marks;
     pub fn kb_judge_in(
         file: *const u8, length: usize, position: Position, rules: u64, room: *mut u16, words: usize,
     ) -> Judgement;

@@ -108,7 +108,7 @@ impl<'a> File<'a> {
         finished(reply).map(|judgement| JudgedFormula { won: flag(judgement.won), length: judgement.length as usize })
     }
 
-    /// The position after a play of this value of the next variable. Refuses with `Misfit`, `Full`, `Option`.
+    /// The position after a play of this value of the next variable. Refuses with `Misfit`, `Full`, `Option`. The lock depth stays.
     pub fn play(self, position: &Position, value: usize) -> Result<Position, Refusal> {
         let (file, length) = self.lent();
         // SAFETY: the entry reads the file's bytes.
@@ -116,11 +116,28 @@ impl<'a> File<'a> {
         finished(moved.answer).map(|_| moved.position)
     }
 
-    /// The position without its last play. Refuses with `Misfit`, `Bare`.
+    /// The position without its last play. Refuses with `Misfit`, `Bare`, `Locked` (all plays are held). The lock depth
+    /// stays.
     pub fn take_back(self, position: &Position) -> Result<Position, Refusal> {
         let (file, length) = self.lent();
         // SAFETY: the entry reads the file's bytes.
         let moved = unsafe { entries::kb_take_back(file, length, *position) };
+        finished(moved.answer).map(|_| moved.position)
+    }
+
+    /// The position with all its plays held. Refuses with `Misfit`.
+    pub fn lock(self, position: &Position) -> Result<Position, Refusal> {
+        let (file, length) = self.lent();
+        // SAFETY: the entry reads the file's bytes.
+        let moved = unsafe { entries::kb_lock(file, length, *position) };
+        finished(moved.answer).map(|_| moved.position)
+    }
+
+    /// The position with its first `number` plays alone held. Refuses with `Misfit`, `Depth` (fewer are held).
+    pub fn unlock(self, position: &Position, number: usize) -> Result<Position, Refusal> {
+        let (file, length) = self.lent();
+        // SAFETY: the entry reads the file's bytes.
+        let moved = unsafe { entries::kb_unlock(file, length, *position, number as u64) };
         finished(moved.answer).map(|_| moved.position)
     }
 

@@ -9,7 +9,7 @@ impl File<'_> {
         let (file, length) = self.lent();
         let [a, b, c, d] = position.packed();
         // SAFETY: the entry reads the file's bytes.
-        let reply = unsafe { entries::kb_judge(file, length, position.plays, a, b, c, d, rules.number()) };
+        let reply = unsafe { entries::kb_judge(file, length, position.plays, position.depth, a, b, c, d, rules.number()) };
         finished(reply).map(|judgement| flag(judgement.won))
     }
 
@@ -18,7 +18,7 @@ impl File<'_> {
         let (file, length) = self.lent();
         let [a, b, c, d] = position.packed();
         // SAFETY: the entry reads the file's bytes.
-        let reply = unsafe { entries::kb_mark(file, length, position.plays, a, b, c, d, rules.number()) };
+        let reply = unsafe { entries::kb_mark(file, length, position.plays, position.depth, a, b, c, d, rules.number()) };
         finished(reply).map(entries::Marks::typed)
     }
 
@@ -53,8 +53,9 @@ impl File<'_> {
         })
     }
 
-    /// Runs calls from the fresh position, each a byte: 255 a take-back, any other a play of that value; a refused one changes
-    /// nothing. Replies [`mark`](File::mark) and [`open_values`](File::open_values) of the position reached.
+    /// Runs calls from the fresh position, each a byte: 255 a take-back, 254 a lock, 192 to 253 an unlock to that less 192, any other a
+    /// play of that value; a refused one changes nothing. Replies [`mark`](File::mark) and [`open_values`](File::open_values) of the
+    /// position reached.
     pub fn replay(self, calls: &[u8], rules: RuleSet) -> Replayed {
         let (file, length) = self.lent();
         // SAFETY: the entry reads the bytes of the file and of the calls.

@@ -25,6 +25,12 @@
 //! let played = file.play(&fresh, 0)?;
 //! assert_eq!(file.mark(&played, RuleSet::USUAL)?, Marks { winning: 0b10, domain: 0b11 });
 //! assert_eq!(file.play(&played, 2).unwrap_err().reason, Reason::Option);
+//! assert_eq!(file.take_back(&played)?, fresh);
+//!
+//! // A held play cannot be taken back.
+//! let held = file.lock(&played)?;
+//! assert_eq!(file.take_back(&held).unwrap_err().reason, Reason::Locked);
+//! assert_eq!(file.unlock(&held, 0)?, played);
 //!
 //! // Boolean 1 is the first variable's value; 2 and 3 say that the second has the value 0, and 1.
 //! assert_eq!(file.formula_text()?, "p cnf 3 3\na 1 0\ne 2 3 0\n2 3 0\n1 -2 0\n-1 -3 0\n");
@@ -61,7 +67,7 @@ pub use rule_set::RuleSet;
 pub use session::Session;
 
 /// The interface that this wrapper is written for: `KB_INTERFACE` of the header.
-pub const INTERFACE: u64 = 5;
+pub const INTERFACE: u64 = 6;
 /// The stack to give a call, in bytes: `KB_STACK` of the header.
 pub const STACK: usize = 131072;
 /// The stack to give [`File::judge_formula`], in bytes: `KB_FORMULA_STACK` of the header.

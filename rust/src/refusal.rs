@@ -2,7 +2,7 @@
 
 use std::{error::Error, fmt};
 
-/// The names of document 01's list.
+/// The names of document 01's list, and those that cards of document 02 add.
 #[derive(Clone, Copy, Debug, PartialEq, Eq, Hash)]
 pub enum Reason {
     /// 1: fewer than two bytes for a mark, or a body that is not whole.
@@ -37,14 +37,18 @@ pub enum Reason {
     Bare,
     /// 22: marks asked when all variables are played.
     Done,
-    /// 23: a position that the file does not allow.
+    /// 23: a position that the file does not allow, or with more plays held than there are.
     Misfit,
+    /// 24: a take-back when all plays are held.
+    Locked,
+    /// 25: an unlock to more plays than are held.
+    Depth,
     /// Any other number. The library is proved to reply none; it would be handed on as it came.
     Other(u64),
 }
 
 /// The list once: number, reason, and its condition in plain words.
-const LIST: [(u64, Reason, &str); 17] = [
+const LIST: [(u64, Reason, &str); 19] = [
     (1, Reason::Short, "a mark or a body is not whole"),
     (2, Reason::Mark, "no record may have this mark here"),
     (3, Reason::Count, "a count is outside its range"),
@@ -61,7 +65,9 @@ const LIST: [(u64, Reason, &str); 17] = [
     (20, Reason::Full, "all variables are played"),
     (21, Reason::Bare, "no variable is played"),
     (22, Reason::Done, "all variables are played, so there is nothing to mark"),
-    (23, Reason::Misfit, "the file does not allow the position"),
+    (23, Reason::Misfit, "the file does not allow the position, or more plays are held than there are"),
+    (24, Reason::Locked, "all plays are held"),
+    (25, Reason::Depth, "fewer plays are held"),
 ];
 
 impl Reason {
@@ -127,7 +133,7 @@ mod tests {
     #[test]
     fn names_and_numbers() {
         let numbers: Vec<u64> = LIST.iter().map(|row| row.0).collect();
-        assert_eq!(numbers, (1..=13).chain(20..=23).collect::<Vec<u64>>());
+        assert_eq!(numbers, (1..=13).chain(20..=25).collect::<Vec<u64>>());
         for number in (0..300).chain([1 << 32 | 8, u64::MAX]) {
             assert_eq!(Reason::of(number).number(), number);
             assert_eq!(matches!(Reason::of(number), Reason::Other(_)), !numbers.contains(&number));

@@ -2,7 +2,7 @@
 
 use crate::{entries, File, Position, Refusal};
 
-/// A position of a file that plays and take-backs alter.
+/// A position of a file that plays, take-backs, locks and unlocks alter.
 #[derive(Clone, Copy, Debug, PartialEq, Eq)]
 pub struct Session<'a> {
     file: File<'a>,
@@ -38,6 +38,22 @@ impl<'a> Session<'a> {
         let (file, length) = self.file.lent();
         // SAFETY: the entry reads the file's bytes, and alters the position, which is borrowed for this call alone.
         let reply = unsafe { entries::kb_session_take_back(file, length, &mut self.position) };
+        entries::finished(reply).map(drop)
+    }
+
+    /// Holds all plays that stand. Refuses as [`File::lock`] does, and then leaves the position as it was.
+    pub fn lock(&mut self) -> Result<(), Refusal> {
+        let (file, length) = self.file.lent();
+        // SAFETY: the entry reads the file's bytes, and alters the position, which is borrowed for this call alone.
+        let reply = unsafe { entries::kb_session_lock(file, length, &mut self.position) };
+        entries::finished(reply).map(drop)
+    }
+
+    /// Holds the first `number` plays alone. Refuses as [`File::unlock`] does, and then leaves the position as it was.
+    pub fn unlock(&mut self, number: usize) -> Result<(), Refusal> {
+        let (file, length) = self.file.lent();
+        // SAFETY: the entry reads the file's bytes, and alters the position, which is borrowed for this call alone.
+        let reply = unsafe { entries::kb_session_unlock(file, length, &mut self.position, number as u64) };
         entries::finished(reply).map(drop)
     }
 }

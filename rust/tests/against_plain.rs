@@ -1,7 +1,8 @@
 //! Replies beside a plain reading of document 01 (`plain`), on generated files: long and short, valid and damaged.
 
 use crate::plain::{self, problem, some_position, write, Game, Kind, Problem, Random};
-use crate::{all_sets, refusals, tally::Tally};
+use crate::refusals::{self, all};
+use crate::{all_sets, tally::Tally};
 use kickballbox::{File, Marks, Position, Reason, Refusal, RuleSet, FILE, STACK};
 
 /// What the plain game expects at one position, once for all rule sets.
@@ -29,7 +30,7 @@ fn compare_bytes(tally: &mut Tally, bytes: &[u8]) -> bool {
     let expected = plain::read(bytes).map(|p| plain::reading(&p));
     tally.compare(File::new(bytes).read(), expected);
     if let Err(refusal) = expected {
-        tally.compare(refusals::by_every_call(bytes), vec![Some(refusal); 24]);
+        tally.compare(refusals::by_every_call(bytes), vec![Some(refusal); 28]);
     }
     expected.is_ok()
 }
@@ -236,12 +237,12 @@ fn records_out_of_place() {
 fn misfits_and_rule_sets() {
     let mut sets = Tally::new("misfits: rule sets refused");
     let mut plays = Tally::new("misfits: numbers of plays refused");
+    let mut depths = Tally::new("misfits: lock depths refused");
     let mut places = Tally::new("misfits: places");
     let mut full = Tally::new("misfits: all played");
     let mut random = Random(31);
     let wide = |k: u64| [128, 255, 256, 257, 259, 1 << 16 | k, 1 << 32 | k, 1 << 63 | k, u64::MAX];
-    let all = |reason: Reason| vec![Some(Refusal::from(reason)); 5];
-    let (mut number, mut refused, mut taken) = (0, 0, 0);
+    let (mut by_plays, mut by_depth, mut refused, mut taken) = (0, 0, 0, 0);
     for _ in 0..300 {
         let most = if random.chance(20) { 32 } else { 4 };
         let n = 1 + random.below(most);
@@ -252,12 +253,19 @@ fn misfits_and_rule_sets() {
         for set in wide(3) {
             sets.compare(refusals::by_position(&bytes, &fit, RuleSet::unchecked(set)), all(Reason::Rules));
         }
-        for count in (n + 1..=40).chain(wide(fit.plays)).chain([1 << 8 | fit.plays, 1 << 40 | fit.plays]) {
-            let at = Position { plays: count, ..fit };
-            plays.compare(refusals::by_position(&bytes, &at, RuleSet::USUAL), all(Reason::Misfit));
-            plays.compare(refusals::by_position(&bytes, &at, RuleSet::unchecked(128)), all(Reason::Rules));
-            plays.compare(refusals::by_moves(file, &at), all(Reason::Misfit));
-            number += 3;
+        let compare = |tally: &mut Tally, at: Position| {
+            tally.compare(refusals::by_position(&bytes, &at, RuleSet::USUAL), all(Reason::Misfit));
+            tally.compare(refusals::by_position(&bytes, &at, RuleSet::unchecked(128)), all(Reason::Rules));
+            tally.compare(refusals::by_moves(file, &at), all(Reason::Misfit));
+        };
+        let above = |k: u64| (k + 1..=40).chain(wide(fit.plays)).chain([1 << 8 | fit.plays, 1 << 40 | fit.plays]);
+        for count in above(n) {
+            compare(&mut plays, Position { plays: count, depth: fit.depth, values: fit.values });
+            by_plays += 3;
+        }
+        for depth in above(fit.plays) {
+            compare(&mut depths, fit.with_depth(depth));
+            by_depth += 3;
         }
         for place in 0..32 {
             for value in [0, 1, 2, 15, 16, 17, 32, 128, 255, random.next() as u8] {
@@ -280,7 +288,8 @@ fn misfits_and_rule_sets() {
     }
     assert!(refused > 100_000 && taken > 2_000, "too plain a mixture: {refused} refused, {taken} taken");
     sets.end(300 * 9);
-    plays.end(number);
+    plays.end(by_plays);
+    depths.end(by_depth);
     places.end(refused + taken);
     full.end(600);
 }
@@ -330,7 +339,8 @@ fn stack_as_stated() {
         Ok::<_, Refusal>((
             (file.judge(&at, RuleSet::ALL)?, file.mark(&at, RuleSet::ALL)?, file.search(&at, RuleSet::ALL)?),
             (file.judge_in(&at, RuleSet::ALL, &mut room)?, file.mark_in(&at, RuleSet::ALL, &mut room)?),
-            (file.replay(&[255; 9], RuleSet::ALL), file.open_values(&at)?, file.take_back(&at).err()),
+            (file.replay(&[255; 9], RuleSet::ALL), file.open_values(&at)?),
+            (file.take_back(&at).err(), file.lock(&at)?, file.unlock(&at, 0)?),
             (shown, lost, list, buffer[..length].to_vec(), file.formula_text()?, file.groups()?, file.group_file(0)?),
         ))
     };

@@ -1,7 +1,7 @@
 //! The rows of document 01 that are tried by program only.
 
 use crate::plain::{Constraint, Problem};
-use crate::{lent, plain, tally::Tally};
+use crate::{lent, plain, refusals, tally::Tally};
 use kickballbox::{File, Position, Reason, Refusal, RuleSet, FILE, ROOM, TEXT};
 
 /// A file of n existential variables with one value, m times the constraint of the pair (0, 1) and this rule set.
@@ -56,6 +56,28 @@ fn rooms() {
     }
     assert_eq!(ROOM, lent::needed(32));
     tally.end(128);
+}
+
+/// With all n variables played every number of plays up to n can be held, and none above.
+#[test]
+fn lock_depths() {
+    let mut tally = Tally::new("boundaries: lock depths");
+    for n in 1..=32 {
+        let bytes = file(n, 0, None);
+        let file = File::new(&bytes);
+        let n = usize::from(n);
+        let played = Position::after(&[0; 32][..n]).unwrap();
+        let [held, one_less, one_more] = [n, n - 1, n + 1].map(|depth| played.with_depth(depth as u64));
+        let before = Position::after(&[0; 32][..n - 1]).unwrap().with_depth(n as u64 - 1);
+        let refused = |reason: Reason| Err(reason.into());
+        tally.compare((file.lock(&played), file.lock(&held)), (Ok(held), Ok(held)));
+        tally.compare((file.take_back(&held), file.take_back(&one_less)), (refused(Reason::Locked), Ok(before)));
+        tally.compare((file.unlock(&held, n + 1), file.unlock(&held, n)), (refused(Reason::Depth), Ok(held)));
+        tally.compare((file.unlock(&played, 1), file.unlock(&held, 0)), (refused(Reason::Depth), Ok(played)));
+        tally.compare(refusals::by_moves(file, &one_more), refusals::all(Reason::Misfit));
+        tally.compare(refusals::by_position(&bytes, &one_more, RuleSet::USUAL), refusals::all(Reason::Misfit));
+    }
+    tally.end(6 * 32);
 }
 
 /// The longest file passes, and its text and the longest text fit as the constants say.

@@ -1,4 +1,4 @@
-//! Stored calls: plays, take-backs and open values; judging and marking in lent room, and in room of their own.
+//! Stored calls: plays, take-backs, locks, unlocks and open values; judging and marking in lent room, and in room of their own.
 
 use crate::stored::{self, Answer, Call};
 use crate::{lent, tally::Tally};
@@ -7,39 +7,63 @@ use kickballbox::{File, Marks, Position, Reason, Refusal, RuleSet, Session};
 /// What a call answers, and whether it left what it is lent as it should.
 type Made = (Result<Answer, Refusal>, bool);
 
-/// The stored calls of this kind, made and compared.
-fn compare(name: &'static str, kind: u8, count: u64, made: impl Fn(File, &Position, &Call) -> Made) {
-    let mut tally = Tally::new(name);
-    for call in stored::calls(kind) {
-        tally.compare(made(File::new(&call.file), &call.position, &call), (call.answer, true));
+/// The calls of this kind in each of the stored files, made and compared: so many of each, 0 where it has none.
+fn compare(name: &str, kind: u8, counts: [u64; 2], made: impl Fn(File, &Position, &Call) -> Made) {
+    for (file, count) in stored::CALLS.into_iter().zip(counts).filter(|(_, count)| *count > 0) {
+        let mut tally = Tally::new(format!("{file}: {name}"));
+        for call in stored::calls(file, kind) {
+            tally.compare(made(File::new(&call.file), &call.position, &call), (call.answer, true));
+        }
+        tally.end(count);
     }
-    tally.end(count);
 }
 
-/// A call on a session that begins at this position.
-fn in_session(file: File, at: &Position, made: impl Fn(&mut Session) -> Result<(), Refusal>) -> Made {
-    let mut session = Session::new(file, *at);
-    let reply = made(&mut session);
-    let kept = reply.is_ok() || session.position() == at;
-    (reply.map(|()| Answer::Moved(*session.position())), kept)
+/// Calls that move a position, by value and in a session.
+fn compare_moves(
+    name: &str,
+    kind: u8,
+    counts: [u64; 2],
+    by_value: impl Fn(File, &Position, usize) -> Result<Position, Refusal>,
+    in_session: impl Fn(&mut Session, usize) -> Result<(), Refusal>,
+) {
+    compare(name, kind, counts, |file, at, call| (by_value(file, at, call.argument.into()).map(Answer::Moved), true));
+    compare(&format!("{name} in a session"), kind, counts, |file, at, call| {
+        let mut session = Session::new(file, *at);
+        let reply = in_session(&mut session, call.argument.into());
+        let kept = reply.is_ok() || session.position() == at;
+        (reply.map(|()| Answer::Moved(*session.position())), kept)
+    });
 }
 
 #[test]
 fn plays() {
-    let value = |call: &Call| usize::from(call.argument);
-    compare("calls: plays", stored::PLAY, 166, |file, at, call| (file.play(at, value(call)).map(Answer::Moved), true));
-    compare("calls: plays in a session", stored::PLAY, 166, |file, at, call| in_session(file, at, |session| session.play(value(call))));
+    compare_moves("plays", stored::PLAY, [166, 260], |file, at, value| file.play(at, value), |session, value| session.play(value));
 }
 
 #[test]
 fn take_backs() {
-    compare("calls: take-backs", stored::TAKE_BACK, 185, |file, at, _| (file.take_back(at).map(Answer::Moved), true));
-    compare("calls: take-backs in a session", stored::TAKE_BACK, 185, |file, at, _| in_session(file, at, |session| session.take_back()));
+    compare_moves("take-backs", stored::TAKE_BACK, [185, 211], |file, at, _| file.take_back(at), |session, _| session.take_back());
+}
+
+#[test]
+fn locks() {
+    compare_moves("locks", stored::LOCK, [0, 112], |file, at, _| file.lock(at), |session, _| session.lock());
+}
+
+#[test]
+fn unlocks() {
+    compare_moves(
+        "unlocks",
+        stored::UNLOCK,
+        [0, 219],
+        |file, at, number| file.unlock(at, number),
+        |session, number| session.unlock(number),
+    );
 }
 
 #[test]
 fn open_values() {
-    compare("calls: open values", stored::OPEN, 190, |file, at, _| (file.open_values(at).map(Answer::Opened), true));
+    compare("open values", stored::OPEN, [190, 158], |file, at, _| (file.open_values(at).map(Answer::Opened), true));
 }
 
 fn rules(call: &Call) -> RuleSet {
@@ -58,14 +82,14 @@ fn in_room(call: &Call, made: impl Fn(&mut [u16]) -> Result<Answer, Refusal>) ->
 
 #[test]
 fn judging() {
-    compare("calls: judging in lent room", stored::JUDGE, 188, |file, at, call| {
+    compare("judging in lent room", stored::JUDGE, [188, 249], |file, at, call| {
         in_room(call, |room| file.judge_in(at, rules(call), room).map(Answer::Won))
     });
 }
 
 #[test]
 fn marking() {
-    compare("calls: marking in lent room", stored::MARK, 171, |file, at, call| {
+    compare("marking in lent room", stored::MARK, [171, 291], |file, at, call| {
         in_room(call, |room| file.mark_in(at, rules(call), room).map(marks))
     });
 }
@@ -77,7 +101,8 @@ fn in_room_of_their_own() {
     let mut marked = Tally::new("calls: marking without lent room");
     let mut searched = Tally::new("calls: searching");
     let room = || vec![0; kickballbox::ROOM];
-    for call in stored::calls(stored::JUDGE) {
+    let calls = |kind: u8| stored::CALLS.into_iter().flat_map(move |name| stored::calls(name, kind));
+    for call in calls(stored::JUDGE) {
         let (file, at, rules) = (File::new(&call.file), &call.position, rules(&call));
         let expected = match call.answer {
             Err(Refusal { reason: Reason::Room, .. }) => file.judge_in(at, rules, &mut room()).map(Answer::Won),
@@ -86,7 +111,7 @@ fn in_room_of_their_own() {
         judged.compare(file.judge(at, rules).map(Answer::Won), expected);
         searched.compare(file.search(at, rules).map(|found| Answer::Won(found.won)), expected);
     }
-    for call in stored::calls(stored::MARK) {
+    for call in calls(stored::MARK) {
         let (file, at, rules) = (File::new(&call.file), &call.position, rules(&call));
         let expected = match call.answer {
             Err(Refusal { reason: Reason::Room, .. }) => file.mark_in(at, rules, &mut room()).map(marks),
@@ -94,7 +119,7 @@ fn in_room_of_their_own() {
         };
         marked.compare(file.mark(at, rules).map(marks), expected);
     }
-    judged.end(188);
-    searched.end(188);
-    marked.end(171);
+    judged.end(188 + 249);
+    searched.end(188 + 249);
+    marked.end(171 + 291);
 }

@@ -31,7 +31,7 @@ fn files_read() {
     }
     verdicts.end(1118);
     contents.end(217);
-    everywhere.end(901 * 24);
+    everywhere.end(901 * 28);
 }
 
 /// Where the row bytes of each pair stand, by a walk over the records of an accepted file.

@@ -1,16 +1,22 @@
-//! Lists of calls replayed, refused ones among them, beside a plain list of the plays that stand and the plain solver.
+//! Lists of calls replayed, refused ones among them, beside a plain list of the plays that stand with its lock depth, and the plain solver.
 
-use crate::plain::{self, Game, PlainList, Problem, Random};
-use crate::{stored, tally::Tally};
+use crate::plain::{self, Call, Game, PlainList, Problem, Random};
+use crate::{
+    stored,
+    tally::{Refused, Tally},
+};
 use kickballbox::{File, Marks, Reason, Refusal, RuleSet};
 
-/// Call of a list: of 16 six are take-backs, one is a play of 16 to 254, three are plays of any value below 16, and the others plays of
-/// a value of the next variable, which are refused when all are played.
+/// Call of a list: of 32 ten are take-backs, one is a lock, two are unlocks to a number of at most one above the lock depth, two any byte
+/// from 16 to 253, six plays of any value below 16, and the others plays of a value of the next variable, which are refused when all are
+/// played.
 fn call(p: &Problem, list: &PlainList, random: &mut Random) -> u8 {
-    match random.below(16) {
-        0..=5 => 255,
-        6 => 16 + random.below(239) as u8,
-        7..=9 => random.below(16) as u8,
+    match random.below(32) {
+        0..=9 => 255,
+        10 => 254,
+        11 | 12 => 192 + random.below(list.depth as u64 + 2) as u8,
+        13 | 14 => 16 + random.below(238) as u8,
+        15..=20 => random.below(16) as u8,
         _ => random.value(p.domains.get(list.plays.len()).copied().unwrap_or(65535)),
     }
 }
@@ -30,7 +36,8 @@ fn beside_a_plain_list() {
     let mut by_open = Tally::new("replays: open values at the plays that stand");
     let mut opened = Tally::new("replays: open values by their definition");
     let mut random = Random(0x7e57ca5e);
-    let (mut calls, mut refused, mut rules, mut done) = (0, 0, 0, 0);
+    let mut refused = Refused::default();
+    let (mut calls, mut rules, mut done) = (0, 0, 0);
     for game in stored::games() {
         let file = File::new(&game.file);
         let p = plain::read(&game.file).expect("an accepted file");
@@ -40,8 +47,7 @@ fn beside_a_plain_list() {
             for _ in 0..random.below(65) {
                 let byte = call(&p, &list, &mut random);
                 bytes.push(byte);
-                let made = if byte == 255 { list.take_back() } else { list.play(byte.into()) };
-                refused += u64::from(made.is_err());
+                refused.note(list.make(Call::of(byte)).map_err(Refusal::from));
             }
             calls += bytes.len() as u64;
             let set = random.below(130);
@@ -56,8 +62,9 @@ fn beside_a_plain_list() {
             opened.compare(replayed.opened, Ok(plain::open_values(&p, &list.plays)));
         }
     }
-    println!("replays: {calls} calls, of them {refused} refused; {rules} replays refused with 8, {done} with 22");
-    assert!(calls > 300_000 && refused > 100_000 && rules > 100 && done > 1_000);
+    println!("replays: {calls} calls; marks refused: {rules} with 8, {done} with 22");
+    assert!(calls > 300_000 && refused.all > 100_000 && rules > 100 && done > 1_000);
+    refused.end("replays");
     for tally in [by_solver, by_mark, by_open, opened] {
         tally.end(11200);
     }
@@ -71,7 +78,7 @@ fn any_bytes_as_calls() {
         let p = plain::read(&game.file).expect("an accepted file");
         let mut list = PlainList::new(&p);
         for &byte in &game.file {
-            let _ = if byte == 255 { list.take_back() } else { list.play(byte.into()) };
+            let _ = list.make(Call::of(byte));
         }
         let replayed = File::new(&game.file).replay(&game.file, RuleSet::USUAL);
         tally.compare((replayed.marks, replayed.opened), (marks(&p, &list.plays, 3), Ok(plain::open_values(&p, &list.plays))));

@@ -138,3 +138,21 @@ fn plays() {
     }
     tally.end(11 * 128);
 }
+
+/// Card 6 on G1: a take-back at the lock depth, an unlock above it, and with nothing played a bare take-back first.
+#[test]
+fn locks() {
+    let bytes = g1();
+    let file = File::new(&bytes);
+    let mut session = file.session();
+    let mut tally = Tally::new("small jobs: locks");
+    tally.compare(session.take_back(), Err(Reason::Bare.into()));
+    tally.compare((session.play(0), session.lock()), (Ok(()), Ok(())));
+    tally.compare(session.take_back(), Err(Reason::Locked.into()));
+    tally.compare(session.unlock(2), Err(Reason::Depth.into()));
+    tally.compare((session.unlock(0), session.take_back()), (Ok(()), Ok(())));
+    tally.compare(*session.position(), Position::fresh());
+    tally.compare((session.lock(), session.take_back()), (Ok(()), Err(Reason::Bare.into())));
+    tally.compare(*session.position(), Position::fresh());
+    tally.end(8);
+}

@@ -1,5 +1,6 @@
 //! The stored cases, as `cases/README.md` lays them out.
 
+use crate::plain;
 use kickballbox::{OpenValues, Position, Reason, Refusal, RuleSet};
 
 /// A stored file, and how far it is read.
@@ -138,7 +139,7 @@ fn opened(c: &mut Cases, n: usize) -> OpenValues {
 pub struct Call {
     pub file: Vec<u8>,
     pub position: Position,
-    pub argument: u8,
+    pub argument: u16,
     pub words: usize,
     pub answer: Result<Answer, Refusal>,
     pub kind: u8,
@@ -158,37 +159,77 @@ pub const TAKE_BACK: u8 = 1;
 pub const MARK: u8 = 2;
 pub const OPEN: u8 = 3;
 pub const JUDGE: u8 = 4;
+pub const LOCK: u8 = 5;
+pub const UNLOCK: u8 = 6;
 
-/// The stored calls of this kind.
-pub fn calls(kind: u8) -> Vec<Call> {
-    let mut calls = all("calls.bin", call);
+/// The stored files of calls. In the second an argument has two bytes.
+pub const CALLS: [&str; 2] = ["calls.bin", "card06.bin"];
+
+/// The calls of this kind in one of them.
+pub fn calls(name: &'static str, kind: u8) -> Vec<Call> {
+    let mut calls = all(name, |c| call(c, name == CALLS[1]));
     calls.retain(|call| call.kind == kind);
     calls
 }
 
-fn call(c: &mut Cases) -> Call {
+fn call(c: &mut Cases, wide: bool) -> Call {
     let file = c.file();
     let position = any_position(c);
-    let (kind, argument, words) = (c.byte(), c.byte(), c.word().into());
+    let kind = c.byte();
+    let argument = if wide { c.word() } else { c.byte().into() };
+    let words = c.word().into();
     let refusal = c.refusal();
     let length = c.byte();
     let start = c.at;
     let answer = match refusal {
         Some(refusal) => Err(refusal),
         None => Ok(match kind {
-            PLAY | TAKE_BACK => Answer::Moved(any_position(c)),
+            PLAY | TAKE_BACK | LOCK | UNLOCK => Answer::Moved(any_position(c)),
             MARK => Answer::Marks(c.word(), c.word()),
             OPEN => Answer::Opened(opened(c, n_of(&file))),
             JUDGE => Answer::Won(c.flag()),
             other => panic!("{other} is no kind of call"),
         }),
     };
-    assert_eq!(c.at, start + usize::from(length), "calls.bin: an answer of another length");
+    assert_eq!(c.at, start + usize::from(length), "{}: an answer of another length", c.name);
     Call { file, position, argument, words, answer, kind }
 }
 
 fn any_position(c: &mut Cases) -> Position {
-    Position { plays: c.byte().into(), values: filled(&c.bytes(32)) }
+    Position { plays: c.byte().into(), depth: c.byte().into(), values: filled(&c.bytes(32)) }
+}
+
+/// A list of calls from the fresh position with what each answers, the position reached, and what it comes to there.
+pub struct History {
+    pub file: Vec<u8>,
+    pub calls: Vec<(plain::Call, Result<(), Refusal>)>,
+    pub position: Position,
+    pub winning: u16,
+    pub opened: OpenValues,
+}
+
+pub fn histories() -> Vec<History> {
+    all("card06-histories.bin", |c| {
+        let file = c.file();
+        let count = c.word();
+        let calls = (0..count).map(|_| history_call(c)).collect();
+        let position = played(c).with_depth(c.byte().into());
+        let n = n_of(&file);
+        History { calls, position, winning: c.word(), opened: opened(c, n), file }
+    })
+}
+
+fn history_call(c: &mut Cases) -> (plain::Call, Result<(), Refusal>) {
+    let (kind, argument) = (c.byte(), c.word().into());
+    let call = match kind {
+        PLAY => plain::Call::Play(argument),
+        TAKE_BACK => plain::Call::TakeBack,
+        LOCK => plain::Call::Lock,
+        UNLOCK => plain::Call::Unlock(argument),
+        other => panic!("{}: {other} is no kind of call", c.name),
+    };
+    let number = c.byte();
+    (call, if number == 0 { Ok(()) } else { Err(refusal(number, 0)) })
 }
 
 /// A search: from where, under which set, whether won or lost, and the list or leaf behind it.

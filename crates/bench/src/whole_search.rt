@@ -11,8 +11,8 @@ use position::fresh;
 // The fresh position.
 #[unsafe(no_mangle)]
 pub extern "C" fn bench_judge(f: &[u8], set: usize, room: &mut [u16]) -> u64
-    ensures value { result ≡ as_number 2 (judge_told f.now (shown []) set (length room.old)) }
-    ensures room_after { room.new ≡ judge_left f.now (shown []) set room.old }
+    ensures value { result ≡ as_number 2 (judge_told f.now (shown 0 []) set (length room.old)) }
+    ensures room_after { room.new ≡ judge_left f.now (shown 0 []) set room.old }
 {
     number(judge(f, fresh(), set, room), 2)
 }

@@ -9,7 +9,7 @@ pub mod Game
 pub mod Lists
 -- A position: the file's domains with each played variable narrowed.
 pub mod Position
--- The plain list of plays that stand, fed by calls ("The game", second paragraph).
+-- The plain list of plays that stand, and the depth beside it, fed by calls ("The game", second paragraph; document 02, card 6).
 pub mod Calls
 -- Open values and their counts ("Open options"; document 02, card 3).
 pub mod Open

@@ -4,7 +4,7 @@ use mathlib.Core.List.{List, [], ◌∷◌}
 use Prim.Native.Nat.{ℕ}
 use Rattle.refusal.specs.Chain.{Fine}
 use Rattle.file_records.specs.Records.{verdict_of}
-use Rattle.game.specs.Calls.{Call, play, take_back}
+use Rattle.game.specs.Calls.{Call, play, take_back, lock, unlock}
 use Rattle.position.specs.declared.Position.{Position}
 use Rattle.session.specs.Told.{open_told}
 use Rattle.session.specs.History.{step, reached_from, reached_by}
@@ -19,6 +19,8 @@ module _ (f : List ℕ) where
   unfolding session_step step
   session_step_lem s (play a) = refl
   session_step_lem s take_back = refl
+  session_step_lem s lock = refl
+  session_step_lem s (unlock k) = refl
 
   from_same : (s : Position) (cs : List Call) → session_from f s cs ≡ reached_from f s cs
   unfolding session_from reached_from
@@ -30,6 +32,6 @@ module _ (f : List ℕ) where
   session_reached cs = from_same _ cs
 
   pub demand_3_session : (fine : verdict_of f ≡ Fine) (calls : List Call) (set words : ℕ)
-      → Demand3 f fine calls set words (mark_told f (session_after f calls) set words) (open_told f (session_after f calls))
+      → Demand3 f fine calls set words (session_after f calls) (mark_told f (session_after f calls) set words) (open_told f (session_after f calls))
   demand_3_session fine calls set words =
-      subst (λ (p : Position). Demand3 f fine calls set words (mark_told f p set words) (open_told f p)) (sym (session_reached calls)) (demand_3 f fine calls set words)
+      subst (λ (p : Position). Demand3 f fine calls set words p (mark_told f p set words) (open_told f p)) (sym (session_reached calls)) (demand_3 f fine calls set words)

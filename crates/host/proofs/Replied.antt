@@ -1,7 +1,8 @@
--- What the entries reply to an accepted file: a rule set above 127 is 8 and more plays than variables are 23, however large the number; every
--- other position that fits is judged and, unless played out, marked. So the room held suffices for every file, and 12 never comes.
+-- What the entries reply to an accepted file: a rule set above 127 is 8, more plays than variables and a depth above the plays are 23, however
+-- large the number; every other position that fits is judged and, unless played out, marked. So the room held suffices for every file, and 12
+-- never comes.
 use mathlib.Core.Path.{◌≡◌, refl, ap, ◌∙◌}
-use mathlib.Core.Bool.{Bool, cond}
+use mathlib.Core.Bool.{Bool, false, cond}
 use mathlib.Core.List.{List, [], ◌∷◌}
 use Prim.Native.Nat.{ℕ, ◌≤◌, ◌<◌}
 use native.Mathlib.Omega.{arith}
@@ -26,6 +27,7 @@ use Rattle.file_decoder.proofs.FileLaws.{problem_size}
 use Rattle.file_decoder.proofs.ReadLaws.{read_fine}
 use Rattle.position.specs.declared.Position.{Position}
 use Rattle.position.specs.Position.{plays_of, fits_in}
+use Rattle.position.proofs.Fitting.{plays_above, depth_above}
 use Rattle.search_run.specs.Run.{room_needed, held_room}
 use Rattle.judging.specs.Tests.{position_test, judge_test}
 use Rattle.judging.proofs.TestLaws.{room_held}
@@ -41,9 +43,9 @@ module _ (n : ℕ) (masks : List ℕ) (p : Position) (set : ℕ) where
   unfolding position_test is_rule_set need
   rules-refused h = stop _ _ Rules (ap (λ (b : Bool). need b Rules) (lt-leb set greatest_set h))
 
-  plays_refused : set ≤ greatest_set → n < p.plays → position_test n masks p set ≡ Err Misfit
-  unfolding position_test is_rule_set fits_in need
-  plays_refused h k = go _ _ (need_ok _ _ (le-leb set greatest_set h)) ∙ rw (lt-leb p.plays n k) refl
+  misfit_refused : set ≤ greatest_set → fits_in p n masks ≡ false → position_test n masks p set ≡ Err Misfit
+  unfolding position_test is_rule_set need
+  misfit_refused h e = go _ _ (need_ok _ _ (le-leb set greatest_set h)) ∙ ap (λ (b : Bool). need b Misfit) e
 
   position_taken : set ≤ greatest_set → T (fits_in p n masks) → position_test n masks p set ≡ Fine
   unfolding position_test is_rule_set
@@ -78,12 +80,21 @@ module _ (f : List ℕ) (fine : verdict_of f ≡ Fine) (p : Position) (set : ℕ
       let r = rules-refused P.n P.domain p set h in
       (ap judgement_of (judge_by (Err Rules) (stop _ _ Rules r)), ap marks_of (mark_by (Err Rules) (stop _ _ Rules r)))
 
-  -- More plays than variables.
-  pub many_plays : set ≤ greatest_set → n_of f < p.plays → (judge_replied ≡ record { kind = 1; number = 23; place = 0; won = 0 }) × (mark_replied ≡ record { kind = 1; number = 23; place = 0; winning = 0; domain = 0 })
+  -- A position that does not fit: more plays than variables, or a depth above the plays.
+  abbrev pub MisfitReplied : Type 0
+  MisfitReplied = (judge_replied ≡ record { kind = 1; number = 23; place = 0; won = 0 }) × (mark_replied ≡ record { kind = 1; number = 23; place = 0; winning = 0; domain = 0 })
+
+  pub misfits : set ≤ greatest_set → fits_in p P.n P.domain ≡ false → MisfitReplied
   unfolding judge_test mark_test replied_for judgement_of marks_of kind_of number_of place_of value_of
-  many_plays h k =
-      let r = plays_refused P.n P.domain p set h (omega (arith, problem_size f fine)) in
+  misfits h e =
+      let r = misfit_refused P.n P.domain p set h e in
       (ap judgement_of (judge_by (Err Misfit) (stop _ _ Misfit r)), ap marks_of (mark_by (Err Misfit) (stop _ _ Misfit r)))
+
+  pub many_plays : set ≤ greatest_set → n_of f < p.plays → MisfitReplied
+  many_plays h k = misfits h (plays_above p P.n P.domain (omega (arith, problem_size f fine)))
+
+  pub many_held : set ≤ greatest_set → p.plays < p.depth → MisfitReplied
+  many_held h k = misfits h (depth_above p P.n P.domain k)
 
   -- Every position that fits is judged.
   pub judges : set ≤ greatest_set → T (fits_in p P.n P.domain) → judge_replied ≡ record { kind = 0; number = 0; place = 0; won = cond (verdict P (plays_of p)) 1 0 }

@@ -1,6 +1,6 @@
 -- What the entries for a C host take and reply beside what the entries below say.
 
--- "position as numbers": a position from the number of plays and four numbers.
+-- "position as numbers": a position from the number of plays, the lock depth and four numbers.
 pub mod Unpack
 -- The rule set that the writer is handed.
 pub mod Handed

@@ -11,7 +11,8 @@ ghost use Rattle.file_writer.specs.Writing.{write_told, write_buffer};
 ghost use Rattle.formula_entries.specs.Told.{formula_told, formula_left, judge_formula_told};
 ghost use Rattle.group_entries.specs.Told.{groups_told, groups_listed, write_group_told, write_group_left};
 ghost use Rattle.rule_entries.specs.Alone.{arc_told, arc_left, forward_told, forward_left, ahead_told, pure_told, pure_shown, interchangeable_told};
-ghost use Rattle.session.specs.Told.{play_told, play_left, take_back_told, take_back_left, open_told, masks_shown, counts_shown};
+ghost use Rattle.session.specs.Told.{play_told, play_left, take_back_told, take_back_left, lock_told, lock_left, unlock_told, unlock_left};
+ghost use Rattle.session.specs.Told.{open_told, masks_shown, counts_shown};
 ghost use Rattle.search_run.specs.Run.{held_room};
 ghost use Rattle.judging.specs.Judging.{judge_told, judge_left};
 ghost use Rattle.judging.specs.Searching.{search_found};
@@ -45,16 +46,16 @@ use position::Position;
 use refusal::Refusal;
 use rule_entries::{arc, forward_check, interchangeable, look_ahead, pure};
 use search_run::ROOM;
-use session::{open_values, play, take_back};
+use session::{lock, open_values, play, take_back, unlock};
 use text::text_of;
 use unpack::unpacked;
 
 // KB_INTERFACE of the header: raised by every change of a signature or a struct.
 #[unsafe(no_mangle)]
 pub extern "C" fn kb_interface() -> u64
-    ensures { result ≡ 5 }
+    ensures { result ≡ 6 }
 {
-    5
+    6
 }
 
 // Reads a file.
@@ -129,6 +130,22 @@ pub extern "C" fn kb_take_back(f: &[u8], p: Position) -> MovedPosition
     moved_shown(p, take_back(f, p))
 }
 
+// Holds all plays that stand.
+#[unsafe(no_mangle)]
+pub extern "C" fn kb_lock(f: &[u8], p: Position) -> MovedPosition
+    ensures { result ≡ moved_of (lock_told f.now p) (lock_left f.now p) }
+{
+    moved_shown(p, lock(f, p))
+}
+
+// Holds the first `number` plays alone, at most as many as are held.
+#[unsafe(no_mangle)]
+pub extern "C" fn kb_unlock(f: &[u8], p: Position, number: u64) -> MovedPosition
+    ensures { result ≡ moved_of (unlock_told f.now p number) (unlock_left f.now p number) }
+{
+    moved_shown(p, unlock(f, p, number as usize))
+}
+
 // The same play on a session: one record, which the call alters; refused, it stays as it is.
 #[unsafe(no_mangle)]
 pub extern "C" fn kb_session_play(f: &[u8], s: &mut Position, value: u64) -> CallAnswer
@@ -151,6 +168,28 @@ pub extern "C" fn kb_session_take_back(f: &[u8], s: &mut Position) -> CallAnswer
     moved.answer
 }
 
+// The same lock on a session.
+#[unsafe(no_mangle)]
+pub extern "C" fn kb_session_lock(f: &[u8], s: &mut Position) -> CallAnswer
+    ensures { (result ≡ answer_of (lock_told f.now s.old))
+        × (s.new ≡ lock_left f.now s.old) }
+{
+    let moved = kb_lock(f, *s);
+    *s = moved.position;
+    moved.answer
+}
+
+// The same unlock on a session.
+#[unsafe(no_mangle)]
+pub extern "C" fn kb_session_unlock(f: &[u8], s: &mut Position, number: u64) -> CallAnswer
+    ensures { (result ≡ answer_of (unlock_told f.now s.old number))
+        × (s.new ≡ unlock_left f.now s.old number) }
+{
+    let moved = kb_unlock(f, *s, number);
+    *s = moved.position;
+    moved.answer
+}
+
 // The open values of every variable.
 #[unsafe(no_mangle)]
 pub extern "C" fn kb_open(f: &[u8], p: Position) -> OpenMasks
@@ -164,26 +203,36 @@ pub extern "C" fn kb_open(f: &[u8], p: Position) -> OpenMasks
 pub extern "C" fn kb_judge(
     f: &[u8],
     plays: u64,
+    depth: u64,
     a: u64,
     b: u64,
     c: u64,
     d: u64,
     set: u64,
 ) -> Judgement
-    ensures { result ≡ judgement_of (judge_told f.now (unpack plays a b c d) set held_room) }
+    ensures { result ≡ judgement_of (judge_told f.now (unpack plays depth a b c d) set held_room) }
 {
     let mut room = [0u16; ROOM];
-    let p = unpacked(plays, a, b, c, d);
+    let p = unpacked(plays, depth, a, b, c, d);
     Judgement::from(judge(f, p, set as usize, &mut room))
 }
 
 // The winning values of the next variable, under the rule set of this number.
 #[unsafe(no_mangle)]
-pub extern "C" fn kb_mark(f: &[u8], plays: u64, a: u64, b: u64, c: u64, d: u64, set: u64) -> Marks
-    ensures { result ≡ marks_of (mark_told f.now (unpack plays a b c d) set held_room) }
+pub extern "C" fn kb_mark(
+    f: &[u8],
+    plays: u64,
+    depth: u64,
+    a: u64,
+    b: u64,
+    c: u64,
+    d: u64,
+    set: u64,
+) -> Marks
+    ensures { result ≡ marks_of (mark_told f.now (unpack plays depth a b c d) set held_room) }
 {
     let mut room = [0u16; ROOM];
-    let p = unpacked(plays, a, b, c, d);
+    let p = unpacked(plays, depth, a, b, c, d);
     Marks::from(mark(f, p, set as usize, &mut room))
 }
 

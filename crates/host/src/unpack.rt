@@ -1,4 +1,4 @@
-// A position from its numbers: how many plays, and 32 places packed into four numbers, eight bytes each, the lowest first.
+// A position from its numbers: how many plays, the lock depth, and 32 places packed into four numbers, eight bytes each, the lowest first.
 ghost use Rattle.std.specs.Prelude.{◌≡◌, ◌<◌};
 ghost use Rattle.host.specs.Unpack.{byte_of, unpack};
 
@@ -13,8 +13,8 @@ fn byte_of(w: u64, k: usize) -> u8
 }
 
 // The position of these numbers.
-pub fn unpacked(plays: u64, a: u64, b: u64, c: u64, d: u64) -> Position
-    ensures { result ≡ unpack plays a b c d }
+pub fn unpacked(plays: u64, depth: u64, a: u64, b: u64, c: u64, d: u64) -> Position
+    ensures { result ≡ unpack plays depth a b c d }
 {
     let words = [a, b, c, d];
     let mut values = [0u8; 32];
@@ -23,6 +23,7 @@ pub fn unpacked(plays: u64, a: u64, b: u64, c: u64, d: u64) -> Position
     }
     Position {
         plays: plays as usize,
+        depth: depth as usize,
         values,
     }
 }

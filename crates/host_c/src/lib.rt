@@ -9,7 +9,8 @@ ghost use Rattle.file_writer.specs.Writing.{write_told, write_buffer};
 ghost use Rattle.formula_entries.specs.Told.{formula_told, formula_left, judge_formula_told};
 ghost use Rattle.group_entries.specs.Told.{groups_told, groups_listed, write_group_told, write_group_left};
 ghost use Rattle.rule_entries.specs.Alone.{arc_told, arc_left, forward_told, forward_left, ahead_told, pure_told, pure_shown, interchangeable_told};
-ghost use Rattle.session.specs.Told.{play_told, play_left, take_back_told, take_back_left, open_told, masks_shown, counts_shown};
+ghost use Rattle.session.specs.Told.{play_told, play_left, take_back_told, take_back_left, lock_told, lock_left, unlock_told, unlock_left};
+ghost use Rattle.session.specs.Told.{open_told, masks_shown, counts_shown};
 ghost use Rattle.search_run.specs.Run.{held_room};
 ghost use Rattle.judging.specs.Judging.{judge_told, judge_left};
 ghost use Rattle.judging.specs.Searching.{search_found};
@@ -30,7 +31,7 @@ use position::Position;
 
 #[unsafe(no_mangle)]
 pub extern "C" fn kb_interface() -> u64
-    ensures { result ≡ 5 }
+    ensures { result ≡ 6 }
 {
     host::kb_interface()
 }
@@ -93,6 +94,20 @@ pub extern "C" fn kb_take_back(f: &[u8], p: Position) -> MovedPosition
 }
 
 #[unsafe(no_mangle)]
+pub extern "C" fn kb_lock(f: &[u8], p: Position) -> MovedPosition
+    ensures { result ≡ moved_of (lock_told f.now p) (lock_left f.now p) }
+{
+    host::kb_lock(f, p)
+}
+
+#[unsafe(no_mangle)]
+pub extern "C" fn kb_unlock(f: &[u8], p: Position, number: u64) -> MovedPosition
+    ensures { result ≡ moved_of (unlock_told f.now p number) (unlock_left f.now p number) }
+{
+    host::kb_unlock(f, p, number)
+}
+
+#[unsafe(no_mangle)]
 pub extern "C" fn kb_session_play(f: &[u8], s: &mut Position, value: u64) -> CallAnswer
     ensures { (result ≡ answer_of (play_told f.now s.old value))
         × (s.new ≡ play_left f.now s.old value) }
@@ -109,6 +124,22 @@ pub extern "C" fn kb_session_take_back(f: &[u8], s: &mut Position) -> CallAnswer
 }
 
 #[unsafe(no_mangle)]
+pub extern "C" fn kb_session_lock(f: &[u8], s: &mut Position) -> CallAnswer
+    ensures { (result ≡ answer_of (lock_told f.now s.old))
+        × (s.new ≡ lock_left f.now s.old) }
+{
+    host::kb_session_lock(f, s)
+}
+
+#[unsafe(no_mangle)]
+pub extern "C" fn kb_session_unlock(f: &[u8], s: &mut Position, number: u64) -> CallAnswer
+    ensures { (result ≡ answer_of (unlock_told f.now s.old number))
+        × (s.new ≡ unlock_left f.now s.old number) }
+{
+    host::kb_session_unlock(f, s, number)
+}
+
+#[unsafe(no_mangle)]
 pub extern "C" fn kb_open(f: &[u8], p: Position) -> OpenMasks
     ensures { result ≡ opened_of (open_told f.now p) (masks_shown f.now p) (counts_shown f.now p) }
 {
@@ -119,22 +150,32 @@ pub extern "C" fn kb_open(f: &[u8], p: Position) -> OpenMasks
 pub extern "C" fn kb_judge(
     f: &[u8],
     plays: u64,
+    depth: u64,
     a: u64,
     b: u64,
     c: u64,
     d: u64,
     set: u64,
 ) -> Judgement
-    ensures { result ≡ judgement_of (judge_told f.now (unpack plays a b c d) set held_room) }
+    ensures { result ≡ judgement_of (judge_told f.now (unpack plays depth a b c d) set held_room) }
 {
-    host::kb_judge(f, plays, a, b, c, d, set)
+    host::kb_judge(f, plays, depth, a, b, c, d, set)
 }
 
 #[unsafe(no_mangle)]
-pub extern "C" fn kb_mark(f: &[u8], plays: u64, a: u64, b: u64, c: u64, d: u64, set: u64) -> Marks
-    ensures { result ≡ marks_of (mark_told f.now (unpack plays a b c d) set held_room) }
+pub extern "C" fn kb_mark(
+    f: &[u8],
+    plays: u64,
+    depth: u64,
+    a: u64,
+    b: u64,
+    c: u64,
+    d: u64,
+    set: u64,
+) -> Marks
+    ensures { result ≡ marks_of (mark_told f.now (unpack plays depth a b c d) set held_room) }
 {
-    host::kb_mark(f, plays, a, b, c, d, set)
+    host::kb_mark(f, plays, depth, a, b, c, d, set)
 }
 
 #[unsafe(no_mangle)]

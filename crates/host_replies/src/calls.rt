@@ -1,4 +1,4 @@
-// Replies of a play, a take-back and the open values.
+// Replies of a play, a take-back, a lock, an unlock and the open values.
 ghost use Rattle.std.specs.Prelude.{◌≡◌, []};
 ghost use Rattle.refusal.specs.Told.{refusal_told, told_by};
 ghost use Rattle.session.specs.Told.{told, left, told_opened, masks_in, counts_in};
@@ -59,7 +59,7 @@ impl<T: Copy> From<Result<T, Refusal>> for CallAnswer {
     }
 }
 
-// What a play or a take-back at p replies.
+// What a play, a take-back, a lock or an unlock at p replies.
 pub fn moved_shown(p: Position, answer: Result<Position, Refusal>) -> MovedPosition
     ensures { result ≡ moved_of (told answer) (left p answer) }
 {

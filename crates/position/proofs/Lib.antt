@@ -1,6 +1,6 @@
 -- Laws of positions.
 
--- What a position that fits is: it shows its plays, and they are legal; and back.
+-- What a position that fits is: it shows its plays and its depth, and the plays are legal; and back.
 pub mod Fitting
 -- A play added to the plays shown, and the last taken back.
 pub mod Shown

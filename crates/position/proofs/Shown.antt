@@ -8,36 +8,32 @@ use lib.Seq.{take-append_seam}
 use Rattle.game.specs.Lists.{spread}
 use Rattle.game.specs.Calls.{without_last}
 use Rattle.theory.proofs.SpreadLaws.{spread-next}
+use Rattle.theory.proofs.Standing.{length-without_last}
 use Rattle.position.specs.Position.{shown, plays_of, pushed, popped}
 
 -- The plays of a position that shows l are l.
-pub plays_shown : (l : List ℕ) → plays_of (shown l) ≡ l
+pub plays_shown : (d : ℕ) (l : List ℕ) → plays_of (shown d l) ≡ l
 unfolding plays_of shown spread
-plays_shown l = take-append_seam l (replicate (32 - length l) 0)
+plays_shown d l = take-append_seam l (replicate (32 - length l) 0)
 
 -- A play is the last of the plays shown next.
-pub pushed-shown : (l : List ℕ) (a : ℕ) → length l < 32 → pushed (shown l) a ≡ shown (l ++ (a ∷ []))
+pub pushed-shown : (d : ℕ) (l : List ℕ) (a : ℕ) → length l < 32 → pushed (shown d l) a ≡ shown d (l ++ (a ∷ []))
 unfolding pushed shown
-pushed-shown l a h = ap₂ (λ (k : ℕ) (v : List ℕ). record { plays = k; values = v }) (sym (length-append l (a ∷ []))) (spread-next l a h)
-
-pub length-without_last : (x : ℕ) (l : List ℕ) → length (without_last (x ∷ l)) ≡ length l
-unfolding without_last
-length-without_last x [] = refl
-length-without_last x (y ∷ l) = ap suc (length-without_last y l)
+pushed-shown d l a h = ap₂ (λ (k : ℕ) (v : List ℕ). record { plays = k; depth = d; values = v }) (sym (length-append l (a ∷ []))) (spread-next l a h)
 
 set_last : (x : ℕ) (l r : List ℕ) → set (x ∷ l ++ r) (length l) 0 ≡ without_last (x ∷ l) ++ 0 ∷ r
 unfolding without_last
 set_last x [] r = refl
 set_last x (y ∷ l) r = ap (λ (v : List ℕ). x ∷ v) (set_last y l r)
 
-popped_cons : (x : ℕ) (l : List ℕ) → length l < 32 → popped (shown (x ∷ l)) ≡ shown (without_last (x ∷ l))
+popped_cons : (d x : ℕ) (l : List ℕ) → length l < 32 → popped (shown d (x ∷ l)) ≡ shown d (without_last (x ∷ l))
 unfolding popped shown spread
-popped_cons x l h =
+popped_cons d x l h =
     let e : 32 - length l ≡ suc (32 - suc (length l)) = omega arith in
     let o : suc (length l) - 1 ≡ length l = omega arith in
-    rw (o, length-without_last x l, e) (ap (λ (v : List ℕ). record { plays = length l; values = v }) (set_last x l _))
+    rw (o, length-without_last x l, e) (ap (λ (v : List ℕ). record { plays = length l; depth = d; values = v }) (set_last x l _))
 
 -- A take-back leaves all plays shown but the last.
-pub popped-shown : (l : List ℕ) → 1 ≤ length l → length l ≤ 32 → popped (shown l) ≡ shown (without_last l)
-popped-shown [] h k = absurd (omega arith)
-popped-shown (x ∷ l) h k = popped_cons x l (omega arith)
+pub popped-shown : (d : ℕ) (l : List ℕ) → 1 ≤ length l → length l ≤ 32 → popped (shown d l) ≡ shown d (without_last l)
+popped-shown d [] h k = absurd (omega arith)
+popped-shown d (x ∷ l) h k = popped_cons d x l (omega arith)

@@ -1,28 +1,30 @@
-// Positions by value: the number of plays and 32 places. It rests on `mask`, `refusal` and the laws of `theory`. `fresh` is open to
-// callers; every other function is for the search and the session.
+// Positions by value: the number of plays, the lock depth and 32 places. It rests on `mask`, `refusal` and the laws of `theory`. `fresh` is
+// open to callers; every other function is for the search and the session.
 #![tactic(auto)]
 
 ghost use Rattle.std.specs.Prelude.{◌≡◌, [], ◌≤◌, ◌<◌, T, length};
 ghost use Rattle.mask.specs.Mask.{bit};
-ghost use Rattle.position.specs.Position.{shown, pushed, popped, place_fits, fits_in, fit_test, place_mask, Written};
+ghost use Rattle.position.specs.Position.{shown, pushed, popped, held, place_fits, fits_in, fit_test, place_mask, Written};
 
 use mask::{contains, single};
 use refusal::{Reason, needed};
 
-// The options played, in order of play, and zero elsewhere. C hosts hand it in and get it back.
+// The options played, in order of play, and zero elsewhere. The first `depth` plays are held. C hosts hand it in and get it back.
 #[repr(C)]
 #[derive(Clone, Copy, PartialEq, Eq)]
 pub struct Position {
     pub plays: usize,
+    pub depth: usize,
     pub values: [u8; 32],
 }
 
-// Nothing played.
+// Nothing played, nothing held.
 pub fn fresh() -> Position
-    ensures { result ≡ shown [] }
+    ensures { result ≡ shown 0 [] }
 {
     Position {
         plays: 0,
+        depth: 0,
         values: [0; 32],
     }
 }
@@ -49,6 +51,15 @@ pub fn popped(p: Position) -> Position
     before
 }
 
+// The first `depth` plays held, and no other.
+pub fn held(p: Position, depth: usize) -> Position
+    ensures { result ≡ held p depth }
+{
+    let mut next = p;
+    next.depth = depth;
+    next
+}
+
 // Whether the mask holds the value, whatever its size.
 pub fn holds(m: u16, value: usize) -> bool
     ensures { result ≡ bit m value }
@@ -71,7 +82,11 @@ fn fits(p: Position, n: usize, domains: &[u16; 32]) -> bool
     ensures { result ≡ fits_in p n domains.now }
 {
     let few = p.plays <= n;
-    few && (0..32).all(|i| place_fits(p.plays, i, domains[i], p.values[i]))
+    if !few {
+        return false;
+    }
+    let within = p.depth <= p.plays;
+    within && (0..32).all(|i| place_fits(p.plays, i, domains[i], p.values[i]))
 }
 
 // The refusal of a misfit.

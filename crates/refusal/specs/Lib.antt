@@ -1,6 +1,6 @@
 -- Refusals: their reasons, how tests are chained, and what a call tells.
 
--- Document 01: "1 Short" to "23 Misfit".
+-- Document 01: "1 Short" to "23 Misfit"; card 6 of document 02: "24 Locked", "25 Depth".
 pub mod Reason
 -- Document 01: "the earliest record decides; within it Short for the mark, Mark, Short for the body, then 3, 8, 4, 5, 6, 7".
 pub mod Chain

@@ -1,8 +1,8 @@
--- The reasons of a refusal with document 01's numbers ("Turned away because of the input", ".. of the state"): "When an answer is an enum, a
+-- The reasons of a refusal with the numbers of documents 01 and 02 ("Turned away because of the input", ".. of the state"): "When an answer is an enum, a
 -- definition gives this paper's number and values for each of its cases."
 use Rattle.std.specs.Prelude.{ℕ}
 use Rattle.refusal.specs.declared.reason.Reason.{Reason}
-use Rattle.refusal.specs.declared.reason.Reason.TheVariants.{Short, Mark, Count, Domain, Pair, Order, Stray, Rules, Tail, Value, Variable, Room, Lent, Full, Bare, Done, Misfit}
+use Rattle.refusal.specs.declared.reason.Reason.TheVariants.{Short, Mark, Count, Domain, Pair, Order, Stray, Rules, Tail, Value, Variable, Room, Lent, Full, Bare, Done, Misfit, Locked, Depth}
 use Rattle.refusal.specs.declared.reason.Fault.{Fault}
 
 abbrev pub number_of : Reason → ℕ
@@ -23,6 +23,8 @@ number_of Full = 20
 number_of Bare = 21
 number_of Done = 22
 number_of Misfit = 23
+number_of Locked = 24
+number_of Depth = 25
 
 -- "Reading tells the number and the place."
 infixr 30 ◌at◌

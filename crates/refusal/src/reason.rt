@@ -3,7 +3,7 @@ ghost use Rattle.std.specs.Prelude.{◌≡◌};
 ghost use Rattle.refusal.specs.Reason.{number_of, ◌at◌};
 ghost use Rattle.refusal.specs.declared.reason.Refusal.TheVariants.{InFile, InCall};
 
-// Document 01's reasons with its numbers: a caller's input from 1, the state from 20.
+// The reasons of documents 01 and 02 with their numbers: a caller's input from 1, the state from 20.
 #[derive(Clone, Copy, PartialEq, Eq)]
 pub enum Reason {
     Short = 1,
@@ -23,6 +23,8 @@ pub enum Reason {
     Bare = 21,
     Done = 22,
     Misfit = 23,
+    Locked = 24,
+    Depth = 25,
 }
 
 impl From<Reason> for u8 {

@@ -6,7 +6,7 @@ use lib.ListN.{length, length-append}
 use native.Mathlib.Omega.{arith}
 use Rattle.mask.specs.Mask.{bit}
 use Rattle.refusal.specs.declared.reason.Reason.{Reason}
-use Rattle.refusal.specs.declared.reason.Reason.TheVariants.{Short, Mark, Count, Domain, Pair, Order, Stray, Rules, Tail, Value, Variable, Room, Lent, Full, Bare, Done, Misfit}
+use Rattle.refusal.specs.declared.reason.Reason.TheVariants.{Short, Mark, Count, Domain, Pair, Order, Stray, Rules, Tail, Value, Variable, Room, Lent, Full, Bare, Done, Misfit, Locked, Depth}
 use Rattle.refusal.specs.declared.reason.Fault.{Fault}
 use Rattle.refusal.specs.Reason.{number_of}
 use Rattle.buffer.specs.Stored.{joined, together}
@@ -86,8 +86,8 @@ unfolding refused_text
 refused_long number place h i =
     long 8 45 _ _ (omega arith) (long 20 25 _ _ (digits number h) (long 4 21 _ _ (omega arith) (long 20 1 _ _ (digits place i) (long 1 0 _ _ (omega arith) none))))
 
--- Every reason's number is below 24.
-number_small : (e : Reason) → number_of e ≤ 23
+-- Every reason's number is a byte.
+number_small : (e : Reason) → number_of e ≤ 255
 number_small Short = omega arith
 number_small Mark = omega arith
 number_small Count = omega arith
@@ -105,6 +105,8 @@ number_small Full = omega arith
 number_small Bare = omega arith
 number_small Done = omega arith
 number_small Misfit = omega arith
+number_small Locked = omega arith
+number_small Depth = omega arith
 
 pub fault_long : (e : Fault) → e.place < 10 ^ 20 → length (fault_text e) ≤ 53
 unfolding fault_text

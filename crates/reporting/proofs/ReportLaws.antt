@@ -47,20 +47,20 @@ use Rattle.reporting.specs.Reporting.{problem_text, report_of, Prints, ReportsAc
 -- ---- before any play the tests are fine
 
 module _ (P : Problem) (set : ℕ) (small : P.n ≤ 32) (rules : set ≤ greatest_set) where
-  fresh-fits : T (fits_in (shown []) P.n P.domain)
+  fresh-fits : T (fits_in (shown 0 []) P.n P.domain)
   fresh-fits =
-      legal-fits P P.n P.domain [] refl (sym (take_all P.n P.domain (omega (arith, P.sized))))
-      (legal_in P [] (omega arith) (λ j h. absurd (omega arith)))
+      legal-fits P P.n P.domain [] 0 refl (sym (take_all P.n P.domain (omega (arith, P.sized))))
+      (legal_in P [] (omega arith) (λ j h. absurd (omega arith))) (omega arith)
 
-  fresh-position : position_test P.n P.domain (shown []) set ≡ Fine
+  fresh-position : position_test P.n P.domain (shown 0 []) set ≡ Fine
   unfolding position_test is_rule_set
   fresh-position = then_ok _ _ (need_ok _ _ (le-leb set greatest_set rules)) (need_ok _ _ (holds fresh-fits))
 
-  fresh_judge : judge_test P.n P.domain (shown []) set (room_needed P) held_room ≡ Fine
+  fresh_judge : judge_test P.n P.domain (shown 0 []) set (room_needed P) held_room ≡ Fine
   unfolding judge_test
   fresh_judge = then_ok _ _ fresh-position (room_held P small)
 
-  fresh_mark : 0 < P.n → mark_test P.n P.domain (shown []) set (room_needed P) held_room ≡ Fine
+  fresh_mark : 0 < P.n → mark_test P.n P.domain (shown 0 []) set (room_needed P) held_room ≡ Fine
   unfolding mark_test shown
   fresh_mark h = then_ok _ _ fresh-position (then_ok _ _ (need_ok _ _ (lt-ltb 0 P.n h)) (room_held P small))
 
@@ -98,7 +98,7 @@ marks_in (Ok x) m d = d
 marks_in (Err (InFile f)) m d = ap₂ (λ w x. record { winning = w; domain = x }) d.0 d.1
 marks_in (Err (InCall e)) m d = ap₂ (λ w x. record { winning = w; domain = x }) d.0 d.1
 
-module _ (f : List ℕ) (fine : verdict_of f ≡ Fine) (p : Position) (set words : ℕ) (fresh : p ≡ shown []) (long : words ≡ held_room) (rules : set ≤ greatest_set) where
+module _ (f : List ℕ) (fine : verdict_of f ≡ Fine) (p : Position) (set words : ℕ) (fresh : p ≡ shown 0 []) (long : words ≡ held_room) (rules : set ≤ greatest_set) where
   abbrev P : Problem
   P = problem_of f fine
 

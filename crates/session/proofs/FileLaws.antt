@@ -24,11 +24,12 @@ use Rattle.file_decoder.proofs.FileLaws.{problem_size, problem_domains}
 use Rattle.file_decoder.proofs.ReadLaws.{read_refused, read_fine}
 use Rattle.position.specs.declared.Position.{Position}
 use Rattle.session.specs.declared.Opened.{Opened}
-use Rattle.session.specs.Plays.{play_in, take_back_in}
+use Rattle.session.specs.Plays.{play_in, take_back_in, lock_in, unlock_in}
 use Rattle.session.specs.Opening.{PosesOwn, open_in}
-use Rattle.session.specs.Files.{file_first, play_file, take_back_file, open_file}
-use Rattle.session.specs.Told.{told, left, told_opened, masks_in, counts_in, play_told, play_left, take_back_told, take_back_left, open_told, masks_shown, counts_shown}
-use Rattle.session.proofs.PlayLaws.{DomainsOf, play_same, take_back_same}
+use Rattle.session.specs.Files.{file_first, play_file, take_back_file, lock_file, unlock_file, open_file}
+use Rattle.session.specs.Told.{told, left, told_opened, masks_in, counts_in, play_told, play_left, take_back_told, take_back_left, lock_told, lock_left, unlock_told, unlock_left}
+use Rattle.session.specs.Told.{open_told, masks_shown, counts_shown}
+use Rattle.session.proofs.PlayLaws.{DomainsOf, play_same, take_back_same, lock_same, unlock_same}
 
 pub read_most : (f : List ℕ) (h : Head) → Shows f h → h.n ≤ 32
 read_most f h s = omega (arith, s.variables, variables_most f s.fine)
@@ -55,6 +56,14 @@ module _ (f : List ℕ) (p : Position) where
     unfolding take_back_file
     take_back_refused = file-refused _
 
+    pub lock_refused : Err (InFile e) ≡ lock_file f p
+    unfolding lock_file
+    lock_refused = file-refused _
+
+    pub unlock_refused : (k : ℕ) → Err (InFile e) ≡ unlock_file f p k
+    unfolding unlock_file
+    unlock_refused k = file-refused _
+
     pub open_refused : Err (InFile e) ≡ open_file f p
     unfolding open_file
     open_refused = file-refused _
@@ -68,6 +77,14 @@ module _ (f : List ℕ) (p : Position) where
     pub take_back_file_lem : take_back_file f p ≡ in_call (take_back_in (problem_of f fine).n (problem_of f fine).domain p)
     unfolding take_back_file file_first
     take_back_file_lem = read_fine f _ _ fine
+
+    pub lock_file_lem : lock_file f p ≡ in_call (lock_in (problem_of f fine).n (problem_of f fine).domain p)
+    unfolding lock_file file_first
+    lock_file_lem = read_fine f _ _ fine
+
+    pub unlock_file_lem : (k : ℕ) → unlock_file f p k ≡ in_call (unlock_in (problem_of f fine).n (problem_of f fine).domain p k)
+    unfolding unlock_file file_first
+    unlock_file_lem k = read_fine f _ _ fine
 
     pub open_file_lem : open_file f p ≡ in_call (open_in (problem_of f fine) p)
     unfolding open_file file_first
@@ -93,6 +110,12 @@ module _ (f : List ℕ) (p : Position) where
     pub take_back_read : (r : Result Position Reason) → r ≡ take_back_in h.n D p → in_call r ≡ take_back_file f p
     take_back_read r e = ap in_call (e ∙ take_back_same _ h.n D domains_of_lem p) ∙ sym (take_back_file_lem s.fine)
 
+    pub lock_read : (r : Result Position Reason) → r ≡ lock_in h.n D p → in_call r ≡ lock_file f p
+    lock_read r e = ap in_call (e ∙ lock_same _ h.n D domains_of_lem p) ∙ sym (lock_file_lem s.fine)
+
+    pub unlock_read : (k : ℕ) (r : Result Position Reason) → r ≡ unlock_in h.n D p k → in_call r ≡ unlock_file f p k
+    unlock_read k r e = ap in_call (e ∙ unlock_same _ h.n D domains_of_lem p k) ∙ sym (unlock_file_lem s.fine k)
+
   -- What a reply tells and leaves.
   pub play_shown : (a : ℕ) (r : Result Position Refusal) → r ≡ play_file f p a → (told r ≡ play_told f p a) × (left p r ≡ play_left f p a)
   unfolding play_told play_left
@@ -101,6 +124,14 @@ module _ (f : List ℕ) (p : Position) where
   pub take_back_shown : (r : Result Position Refusal) → r ≡ take_back_file f p → (told r ≡ take_back_told f p) × (left p r ≡ take_back_left f p)
   unfolding take_back_told take_back_left
   take_back_shown r e = (ap told e, ap (left p) e)
+
+  pub lock_shown : (r : Result Position Refusal) → r ≡ lock_file f p → (told r ≡ lock_told f p) × (left p r ≡ lock_left f p)
+  unfolding lock_told lock_left
+  lock_shown r e = (ap told e, ap (left p) e)
+
+  pub unlock_shown : (k : ℕ) (r : Result Position Refusal) → r ≡ unlock_file f p k → (told r ≡ unlock_told f p k) × (left p r ≡ unlock_left f p k)
+  unfolding unlock_told unlock_left
+  unlock_shown k r e = (ap told e, ap (left p) e)
 
   pub open_shown : (r : Result Opened Refusal) → r ≡ open_file f p → (told_opened r ≡ open_told f p) × (masks_in r ≡ masks_shown f p) × (counts_in r ≡ counts_shown f p)
   unfolding open_told masks_shown counts_shown

@@ -1,23 +1,23 @@
--- Plays and take-backs: what their tests say, and the same over a file's domains and a problem's.
+-- Plays, take-backs, locks and unlocks: what their tests say, and the same over a file's domains and a problem's.
 use mathlib.Core.Path.{◌≡◌, sym, ap, ◌∙◌}
 use mathlib.Core.Bool.{Bool}
 use mathlib.Core.List.{List}
 use Prim.Native.Nat.{ℕ, ◌<◌}
-use lib.Dec.{T, ltb}
+use lib.Dec.{T, ltb, leb}
 use lib.ListN.{get_or}
 use borrow.Author.Tests.{le-ltb}
 use Rattle.mask.specs.Mask.{bit}
 use Rattle.mask.proofs.Logic.{true_holds, clash, by_lt}
 use Rattle.mask.proofs.Bits.{bit_high}
-use Rattle.refusal.specs.declared.reason.Reason.TheVariants.{Value, Full, Misfit}
+use Rattle.refusal.specs.declared.reason.Reason.TheVariants.{Value, Full, Misfit, Depth}
 use Rattle.refusal.specs.Chain.{Test, Fine, ◌then◌, need}
 use Rattle.refusal.specs.Replied.{passed}
 use Rattle.refusal.proofs.Chain.{need_fine}
 use Rattle.game.specs.Problem.{Problem}
 use Rattle.position.specs.declared.Position.{Position}
-use Rattle.position.specs.Position.{pushed, popped, fits_in, fit_test}
+use Rattle.position.specs.Position.{pushed, popped, held, fits_in, fit_test}
 use Rattle.position.proofs.Fitting.{fits_same}
-use Rattle.session.specs.Plays.{play_test, take_back_test, play_in, take_back_in}
+use Rattle.session.specs.Plays.{play_test, take_back_test, unlock_test, play_in, take_back_in, lock_in, unlock_in}
 
 -- A value in a mask of 16 bits is below 16.
 pub value_small : (m a : ℕ) → m < 65536 → T (bit m a) → a < 16
@@ -63,3 +63,11 @@ module _ (P : Problem) (n : ℕ) (D : List ℕ) (h : DomainsOf P n D) (p : Posit
   pub take_back_same : take_back_in n D p ≡ take_back_in P.n P.domain p
   unfolding take_back_in
   take_back_same = ap (λ (t : Test). passed t (popped p)) take_back_test_same
+
+  pub lock_same : lock_in n D p ≡ lock_in P.n P.domain p
+  unfolding lock_in
+  lock_same = ap (λ (t : Test). passed t (held p p.plays)) fit_same
+
+  pub unlock_same : (k : ℕ) → unlock_in n D p k ≡ unlock_in P.n P.domain p k
+  unfolding unlock_in unlock_test
+  unlock_same k = ap (λ (t : Test). passed (t then need (leb k p.depth) Depth) (held p k)) fit_same

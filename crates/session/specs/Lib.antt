@@ -1,6 +1,6 @@
 -- The session's calls by value, and what a history of calls reaches.
 
--- "A play adds at the next place, a take-back clears the last", with the refusals 23, 20, 10 and 21.
+-- "A play adds at the next place, a take-back clears the last"; locks and unlocks; with the refusals 23, 20, 10, 21, 24 and 25.
 pub mod Plays
 -- "Open options", with the refusal 23.
 pub mod Opening

@@ -1,14 +1,14 @@
--- What play, take-back and open values tell of a file and a position, and the position that a play or a take-back leads to: by the
+-- What play, take-back, lock, unlock and open values tell of a file and a position, and the position that the first four lead to: by the
 -- file's verdict first, then by the tests.
 use Rattle.std.specs.Prelude.{ℕ, Result, Ok, Err, List, [], ◌++◌, replicate}
 use Rattle.refusal.specs.declared.reason.Refusal.{Refusal}
 use Rattle.refusal.specs.Told.{Told, refusal_told, told_by}
 use Rattle.position.specs.declared.Position.{Position}
 use Rattle.session.specs.declared.Opened.{Opened}
-use Rattle.session.specs.Files.{play_file, take_back_file, open_file}
+use Rattle.session.specs.Files.{play_file, take_back_file, lock_file, unlock_file, open_file}
 
--- Each case of a reply in document 01's numbers: a finished play or take-back has no values beside the position, open values have 32 masks,
--- then 32 counts.
+-- Each case of a reply in document 01's numbers: a finished play, take-back, lock or unlock has no values beside the position, open values have 32
+-- masks, then 32 counts.
 unfoldable pub told : Result Position Refusal → Told
 told r = told_by (λ q. []) refusal_told r
 
@@ -41,6 +41,18 @@ module _ (f : List ℕ) (p : Position) where
 
   unfoldable pub take_back_left : Position
   take_back_left = left p (take_back_file f p)
+
+  unfoldable pub lock_told : Told
+  lock_told = told (lock_file f p)
+
+  unfoldable pub lock_left : Position
+  lock_left = left p (lock_file f p)
+
+  unfoldable pub unlock_told : ℕ → Told
+  unlock_told k = told (unlock_file f p k)
+
+  unfoldable pub unlock_left : ℕ → Position
+  unlock_left k = left p (unlock_file f p k)
 
   unfoldable pub open_told : Told
   open_told = told_opened (open_file f p)

@@ -1,10 +1,11 @@
-// The session's core by value: a play, a take-back and the open values of a position. Each call reads the file first, then tests the
-// position, then its argument. It rests on `file_reader`, `file_decoder` and `position`. `play`, `take_back` and `open_values` are open
-// to callers; `left` is for the crates that keep a position between calls.
+// The session's core by value: a play, a take-back, a lock, an unlock and the open values of a position. Each call reads the file first,
+// then tests the position, then its argument. It rests on `file_reader`, `file_decoder` and `position`. These five are open to callers;
+// `left` is for the crates that keep a position between calls.
 #![tactic(auto)]
 
 ghost use Rattle.std.specs.Prelude.{◌≡◌};
 ghost use Rattle.session.specs.Told.{told, left, play_told, play_left, take_back_told, take_back_left};
+ghost use Rattle.session.specs.Told.{lock_told, lock_left, unlock_told, unlock_left};
 ghost use Rattle.session.specs.Told.{told_opened, masks_in, counts_in, open_told, masks_shown, counts_shown};
 
 mod open;
@@ -13,7 +14,7 @@ mod plays;
 use file_decoder::decode;
 use file_reader::read;
 use open::open_in;
-use plays::{play_in, take_back_in};
+use plays::{lock_in, play_in, take_back_in, unlock_in};
 use position::Position;
 use refusal::Refusal;
 
@@ -42,7 +43,25 @@ pub fn take_back(f: &[u8], p: Position) -> Result<Position, Refusal>
     Ok(take_back_in(r.head.n as usize, &r.domains, p)?)
 }
 
-// The position that a play or a take-back leaves: a refused call leaves the one that it was given.
+// Holds all plays that stand; replies the position that it leads to.
+pub fn lock(f: &[u8], p: Position) -> Result<Position, Refusal>
+    ensures answer_value { told result ≡ lock_told f.now p }
+    ensures position_value { left p result ≡ lock_left f.now p }
+{
+    let r = read(f)?;
+    Ok(lock_in(r.head.n as usize, &r.domains, p)?)
+}
+
+// Holds the first `number` plays alone, at most as many as are held; replies the position that it leads to.
+pub fn unlock(f: &[u8], p: Position, number: usize) -> Result<Position, Refusal>
+    ensures answer_value { told result ≡ unlock_told f.now p number }
+    ensures position_value { left p result ≡ unlock_left f.now p number }
+{
+    let r = read(f)?;
+    Ok(unlock_in(r.head.n as usize, &r.domains, p, number)?)
+}
+
+// The position that one of these leaves: a refused call leaves the one that it was given.
 pub fn left(p: Position, reply: Result<Position, Refusal>) -> Position
     ensures { result ≡ left p reply }
 {

@@ -1,8 +1,8 @@
-// A play and a take-back over n variables and their domains.
+// A play, a take-back, a lock and an unlock over n variables and their domains.
 ghost use Rattle.std.specs.Prelude.{◌≡◌, ◌≤◌};
-ghost use Rattle.session.specs.Plays.{play_in, take_back_in};
+ghost use Rattle.session.specs.Plays.{play_in, take_back_in, lock_in, unlock_in};
 
-use position::{Position, fit_test, holds, popped, pushed};
+use position::{Position, fit_test, held, holds, popped, pushed};
 use refusal::{Reason, needed};
 
 pub fn play_in(n: usize, domains: &[u16; 32], p: Position, value: usize) -> Result<Position, Reason>
@@ -21,5 +21,26 @@ pub fn take_back_in(n: usize, domains: &[u16; 32], p: Position) -> Result<Positi
 {
     fit_test(n, domains, p)?;
     needed(0 < p.plays, Reason::Bare)?;
+    needed(p.plays != p.depth, Reason::Locked)?;
     Ok(popped(p))
+}
+
+pub fn lock_in(n: usize, domains: &[u16; 32], p: Position) -> Result<Position, Reason>
+    ensures { result ≡ lock_in n domains.now p }
+{
+    fit_test(n, domains, p)?;
+    Ok(held(p, p.plays))
+}
+
+pub fn unlock_in(
+    n: usize,
+    domains: &[u16; 32],
+    p: Position,
+    number: usize,
+) -> Result<Position, Reason>
+    ensures { result ≡ unlock_in n domains.now p number }
+{
+    fit_test(n, domains, p)?;
+    needed(number <= p.depth, Reason::Depth)?;
+    Ok(held(p, number))
 }

@@ -1,4 +1,4 @@
--- What the entries tell of an accepted file, in terms of its problem and the plays that stand.
+-- What the entries tell of an accepted file, in terms of its problem and what stands.
 use Prim.Native.Nat.{ℕ, ◌≤◌}
 use mathlib.Core.Path.{◌≡◌, refl, ap, ◌∙◌}
 use mathlib.Core.Bool.{true, cond}
@@ -22,7 +22,7 @@ use Rattle.rule_entries.specs.Alone.{arc_reply, arc_list, pure_reply, interchang
 use Rattle.file_decoder.proofs.ReadLaws.{read_fine}
 use Rattle.position.specs.Position.{fits_in}
 use Rattle.session.specs.History.{reached_by, list_told, list_opened}
-use Rattle.session.proofs.HistoryLaws.{reached-fits, reached_plays, reached-told}
+use Rattle.session.proofs.HistoryLaws.{reached-fits, reached_plays}
 use Rattle.search_run.specs.Run.{room_needed}
 use Rattle.judging.specs.Tests.{position_test, room_test, judge_test}
 use Rattle.judging.specs.Judging.{judge_reply, judge_told}
@@ -35,9 +35,9 @@ unfoldable pub plainly : List ℕ → Problem → List Call → Question → Tol
 plainly f P cs size = replied (length f ∷ [])
 plainly f P cs reading = header_of f
 plainly f P cs (looking_up i j) = look_up f i j
-plainly f P cs judging = replied (cond (verdict P (standing P cs)) 1 0 ∷ [])
-plainly f P cs marking = list_marked P (standing P cs)
-plainly f P cs opening = list_opened P (standing P cs)
+plainly f P cs judging = replied (cond (verdict P (standing P cs).plays) 1 0 ∷ [])
+plainly f P cs marking = list_marked P (standing P cs).plays
+plainly f P cs opening = list_opened P (standing P cs).plays
 plainly f P cs (calling c) = list_told P (standing P cs) c
 plainly f P cs (arc l) = arc_reply P l
 plainly f P cs (arc_leaving l) = replied (arc_list P l)
@@ -53,7 +53,7 @@ module _ (f : List ℕ) (set words : ℕ) (fine : verdict_of f ≡ Fine) (known 
   reads reply = read_fine f fault_told reply fine
 
   -- In a position that calls reach, judging has nothing to refuse.
-  judge_plain : (cs : List Call) → judge_told f (reached_by f cs) set words ≡ replied (cond (verdict P (standing P cs)) 1 0 ∷ [])
+  judge_plain : (cs : List Call) → judge_told f (reached_by f cs) set words ≡ replied (cond (verdict P (standing P cs).plays) 1 0 ∷ [])
   unfolding judge_told judge_reply judge_test position_test room_test is_rule_set replied_for need ◌then◌
   judge_plain cs =
       let fits : fits_in (reached_by f cs) P.n P.domain ≡ true = holds (reached-fits f fine cs) in
@@ -66,9 +66,9 @@ module _ (f : List ℕ) (set words : ℕ) (fine : verdict_of f ≡ Fine) (known 
   answer_plain cs reading = refl
   answer_plain cs (looking_up i j) = refl
   answer_plain cs judging = judge_plain cs
-  answer_plain cs marking = (demand_3 f fine cs set words).0 known enough
-  answer_plain cs opening = (demand_3 f fine cs set words).1
-  answer_plain cs (calling c) = reached-told f fine cs c
+  answer_plain cs marking = (demand_3 f fine cs set words).marked known enough
+  answer_plain cs opening = (demand_3 f fine cs set words).opens
+  answer_plain cs (calling c) = (demand_3 f fine cs set words).tells c
   answer_plain cs (arc l) = reads _
   answer_plain cs (arc_leaving l) = ap replied (read_fine f (λ e. l) _ fine)
   answer_plain cs (pure_at x l) = reads _

@@ -3,9 +3,9 @@
 use mathlib.Core.Path.{◌≡◌, refl, sym, ap, ◌∙◌}
 use mathlib.Core.Bool.{Bool, true, false, cond, not, ◌&&◌, ◌||◌}
 use mathlib.Core.List.{List, [], ◌∷◌}
-use Prim.Native.Nat.{ℕ, zero, suc, ◌<◌}
+use Prim.Native.Nat.{ℕ, zero, suc, ◌<◌, ◌≤◌}
 use native.Mathlib.Omega.{arith}
-use lib.ListN.{get_or, set}
+use lib.ListN.{get_or, length, set}
 use lib.Count.{ones as ones-of}
 use lib.Dec.{T, eqb, eqb→eq, ltb}
 use Rattle.mask.specs.Range.{some, each, first}
@@ -16,7 +16,7 @@ use Rattle.game.specs.Problem.{Problem}
 use Rattle.game.specs.Game.{Domains, put, turn, satisfied, won, wins}
 use Rattle.game.specs.Lists.{domains, list_of, masks_of, narrow_to, within, may_lend, wins_over}
 use Rattle.game.specs.Position.{play_of, legal, narrowed, position}
-use Rattle.game.specs.Calls.{play, take_back, without_last, after_call, standing_from, standing}
+use Rattle.game.specs.Calls.{play, take_back, lock, unlock, plain, without_last, after_call, standing_from, standing}
 use Rattle.game.specs.Open.{goes_with_plays, plays_clash, existential_empty, universal_clash, stuck, open_values, open_counts}
 use Rattle.game.specs.Winning.{verdict, winning_values}
 use Rattle.game.specs.Support.{clashes, alone, empty}
@@ -67,9 +67,16 @@ G8 = mk_problem (λ i. false) (3 ∷ 3 ∷ []) tt every (λ i a j b. true)
 
 -- The plain list: a play stands if its value is in the next domain, whatever number it is, and fewer than n stand; calls that change nothing
 -- among them.
-calls : standing G1 (take_back ∷ play 2 ∷ play 1 ∷ play 1000000 ∷ play 0 ∷ play 0 ∷ []) ≡ 1 ∷ 0 ∷ []
+calls : standing G1 (take_back ∷ play 2 ∷ play 1 ∷ play 1000000 ∷ play 0 ∷ play 0 ∷ []) ≡ plain (1 ∷ 0 ∷ []) 0
 unfolding bit domains without_last after_call standing_from standing
 calls = refl
+
+-- Its depth: a take-back at it, an unlock above it, plays behind it and the take-backs of these.
+locks : (standing G1 (play 0 ∷ lock ∷ take_back ∷ []) ≡ plain (0 ∷ []) 1) × (standing G1 (play 0 ∷ lock ∷ unlock 2 ∷ unlock 0 ∷ take_back ∷ []) ≡ plain [] 0)
+    × (standing G1 (lock ∷ play 1 ∷ unlock 1 ∷ play 7 ∷ take_back ∷ take_back ∷ []) ≡ plain [] 0)
+    × (standing G1 (play 0 ∷ lock ∷ play 1 ∷ []) ≡ plain (0 ∷ 1 ∷ []) 1) × (standing G1 (play 0 ∷ lock ∷ play 1 ∷ take_back ∷ take_back ∷ []) ≡ plain (0 ∷ []) 1)
+unfolding bit domains without_last after_call standing_from standing
+locks = (refl, refl, refl, refl, refl)
 
 abbrev ruled : Bool → List ℕ → Ruled
 ruled b l = record { loss = b; list = l }
@@ -117,8 +124,11 @@ unfolding each bit mask_of domains is_pure pure
 pure-some = (refl, refl, refl)
 
 -- the game
-g1_standing : T (legal G1 (standing G1 (play 0 ∷ take_back ∷ play 7 ∷ [])))
-g1_standing = Theorems.standing_is_position G1 (play 0 ∷ take_back ∷ play 7 ∷ [])
+g1_standing : T (legal G1 (standing G1 (play 0 ∷ lock ∷ take_back ∷ play 7 ∷ unlock 7 ∷ [])).plays)
+g1_standing = Theorems.standing_is_position G1 (play 0 ∷ lock ∷ take_back ∷ play 7 ∷ unlock 7 ∷ [])
+
+g1_depth : (standing G1 (play 0 ∷ lock ∷ take_back ∷ play 7 ∷ unlock 7 ∷ [])).depth ≤ length (standing G1 (play 0 ∷ lock ∷ take_back ∷ play 7 ∷ unlock 7 ∷ [])).plays
+g1_depth = Theorems.standing_depth G1 (play 0 ∷ lock ∷ take_back ∷ play 7 ∷ unlock 7 ∷ [])
 
 g1_unfolds : verdict G1 (0 ∷ []) ≡ turn false (domains full 1) (λ a. verdict G1 (0 ∷ a ∷ []))
 unfolding each bit domains legal

@@ -4,10 +4,11 @@ use mathlib.Core.Bool.{Bool, true, false, not, ◌&&◌}
 use mathlib.Core.List.{List, [], ◌∷◌, ◌++◌}
 use Prim.Native.Nat.{ℕ, zero, suc, ◌^◌, ◌≤◌, ◌<◌}
 use native.Mathlib.Omega.{arith}
-use lib.Dec.{T, T_not, not_T, eqb, eqb→eq, eqb_refl, ltb, ltb→lt}
+use lib.Dec.{T, T_not, not_T, eqb, eqb→eq, eqb_refl, ltb, ltb→lt, leb, leb→le}
 use lib.ListN.{get_or, length, set, get_or-append}
 use lib.Seq.{get_or-append_seam}
 use lib.Count.{ones}
+use borrow.Author.Tests.{eqb-false}
 use Rattle.mask.specs.Range.{some, each, count}
 use Rattle.mask.specs.Mask.{bit, mask_of}
 use Rattle.mask.proofs.Logic.{same, holds, clash, test, by_eq, and_in, and_out, and_keep}
@@ -18,7 +19,7 @@ use Rattle.game.specs.Problem.{Problem}
 use Rattle.game.specs.Game.{turn, satisfied, wins, narrow}
 use Rattle.game.specs.Lists.{wins_over, domains, masks_of, narrow_to}
 use Rattle.game.specs.Position.{play_of, legal, narrowed, position, placed}
-use Rattle.game.specs.Calls.{Call, play, take_back, without_last, after_call, standing_from, standing}
+use Rattle.game.specs.Calls.{Call, play, take_back, lock, unlock, PlainList, nothing_stands, without_last, after_call, standing_from, standing}
 use Rattle.game.specs.Open.{is_open, open_values, open_counts}
 use Rattle.game.specs.Winning.{verdict, winning_values}
 use Rattle.game.specs.Turn.{first_list}
@@ -39,11 +40,15 @@ narrowed_snoc (m ∷ l) [] a h = refl
 narrowed_snoc (m ∷ l) (v ∷ p) a h = ap {B = List ℕ} (λ r. 2 ^ v ∷ r) (narrowed_snoc l p a (omega arith))
 
 -- The list without its last element has the elements before it.
+pub length-without_last : (x : ℕ) (l : List ℕ) → length (without_last (x ∷ l)) ≡ length l
+unfolding without_last
+length-without_last x [] = refl
+length-without_last x (y ∷ l) = ap suc (length-without_last y l)
+
 without_length : (p : List ℕ) → length (without_last p) ≤ length p
 unfolding without_last
 without_length [] = omega arith
-without_length (a ∷ []) = omega arith
-without_length (a ∷ (b ∷ p)) = let r = without_length (b ∷ p) in omega arith
+without_length (a ∷ p) = let e = length-without_last a p in omega arith
 
 without_same : (p : List ℕ) (j : ℕ) → j < length (without_last p) → get_or (without_last p) j 0 ≡ get_or p j 0
 unfolding without_last
@@ -51,6 +56,12 @@ without_same [] j h = refl
 without_same (a ∷ []) j h = absurd (omega arith)
 without_same (a ∷ (b ∷ p)) zero h = refl
 without_same (a ∷ (b ∷ p)) (suc j) h = without_same (b ∷ p) j (omega arith)
+
+-- A list longer than d has at least d elements without its last.
+held_without : (p : List ℕ) (d : ℕ) → d ≤ length p → eqb (length p) d ≡ false → d ≤ length (without_last p)
+unfolding without_last
+held_without [] d h e = h
+held_without (x ∷ p) d h e = let r = length-without_last x p in let q = eqb-false (length (x ∷ p)) d e in omega arith
 
 module _ (P : Problem) where
   open P use {n, domain, universal, compatible}
@@ -73,23 +84,48 @@ module _ (P : Problem) where
       let e = without_length p in
       legal_in P (without_last p) (omega arith) (λ j h. rw (without_same p j h) (r.1 j (omega arith)))
 
-  pub legal-after : (p : List ℕ) (c : Call) → T (legal P p) → T (legal P (after_call P p c))
+  pub legal-after : (s : PlainList) (c : Call) → T (legal P s.plays) → T (legal P (after_call P s c).plays)
   unfolding after_call
-  legal-after p (play a) t =
+  legal-after s (play a) t =
+      let p = s.plays in
       test (ltb (length p) n && domains domain (length p) a)
-      (λ s. let r = and_out (ltb (length p) n) (domains domain (length p) a) s in
-      rw (holds {b = ltb (length p) n && domains domain (length p) a} s) (legal_snoc p a t (ltb→lt (length p) n r.0) r.1))
+      (λ u. let r = and_out (ltb (length p) n) (domains domain (length p) a) u in
+      rw (holds {b = ltb (length p) n && domains domain (length p) a} u) (legal_snoc p a t (ltb→lt (length p) n r.0) r.1))
       (λ e. rw e t)
-  legal-after p take_back t = legal_without p t
+  legal-after s take_back t = test (eqb (length s.plays) s.depth) (λ u. rw (holds {b = eqb (length s.plays) s.depth} u) t) (λ e. rw e (legal_without s.plays t))
+  legal-after s lock t = t
+  legal-after s (unlock k) t = t
 
-  standing-from : (p : List ℕ) (cs : List Call) → T (legal P p) → T (legal P (standing_from P p cs))
+  standing-from : (s : PlainList) (cs : List Call) → T (legal P s.plays) → T (legal P (standing_from P s cs).plays)
   unfolding standing_from
-  standing-from p [] t = t
-  standing-from p (c ∷ cs) t = standing-from (after_call P p c) cs (legal-after p c t)
+  standing-from s [] t = t
+  standing-from s (c ∷ cs) t = standing-from (after_call P s c) cs (legal-after s c t)
 
-  pub standing-legal : (cs : List Call) → T (legal P (standing P cs))
+  pub standing-legal : (cs : List Call) → T (legal P (standing P cs).plays)
   unfolding standing
-  standing-legal cs = standing-from [] cs legal_none
+  standing-legal cs = standing-from nothing_stands cs legal_none
+
+  -- No more plays are held than stand.
+  pub depth_after : (s : PlainList) (c : Call) → s.depth ≤ length s.plays → (after_call P s c).depth ≤ length (after_call P s c).plays
+  unfolding after_call
+  depth_after s (play a) h =
+      let p = s.plays in
+      let e = snoc_length P p a in
+      test (ltb (length p) n && domains domain (length p) a)
+      (λ u. rw (holds {b = ltb (length p) n && domains domain (length p) a} u) (omega arith))
+      (λ e. rw e h)
+  depth_after s take_back h = test (eqb (length s.plays) s.depth) (λ u. rw (holds {b = eqb (length s.plays) s.depth} u) h) (λ e. rw e (held_without s.plays s.depth h e))
+  depth_after s lock h = omega arith
+  depth_after s (unlock k) h = test (leb k s.depth) (λ u. let m = leb→le k s.depth u in rw (holds {b = leb k s.depth} u) (omega arith)) (λ e. rw e h)
+
+  depth_from : (s : PlainList) (cs : List Call) → s.depth ≤ length s.plays → (standing_from P s cs).depth ≤ length (standing_from P s cs).plays
+  unfolding standing_from
+  depth_from s [] h = h
+  depth_from s (c ∷ cs) h = depth_from (after_call P s c) cs (depth_after s c h)
+
+  pub standing_depth_lem : (cs : List Call) → (standing P cs).depth ≤ length (standing P cs).plays
+  unfolding standing
+  standing_depth_lem cs = depth_from nothing_stands cs (omega arith)
 
   -- The verdict of a position -----------------------------------------------------------------------------------------------
   module _ (p : List ℕ) (t : T (legal P p)) where

@@ -61,8 +61,12 @@ module _ (P : Problem) where
 
   -- THE GAME ------------------------------------------------------------------------------------------------------------------
   -- The calls' plain list is always a position: no more than n plays, each in its variable's domain.
-  pub standing_is_position : (calls : List Call) → T (legal P (standing P calls))
+  pub standing_is_position : (calls : List Call) → T (legal P (standing P calls).plays)
   standing_is_position calls = Standing.standing-legal P calls
+
+  -- No more plays are held than stand.
+  pub standing_depth : (calls : List Call) → (standing P calls).depth ≤ length (standing P calls).plays
+  standing_depth calls = Standing.standing_depth_lem P calls
 
   -- "At a shift's choice, some option in its mask must lead to a win; at a day's choice, every option must."
   pub verdict_unfolds : (p : List ℕ) → T (legal P p) → length p < n

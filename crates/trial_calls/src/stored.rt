@@ -15,11 +15,16 @@ pub struct Call<'a> {
     pub shown: Stored<'a>,
 }
 
-// A position with all its values.
+// A position with its lock depth and all its values.
 pub fn position(s: &mut Stored) -> Position {
     let plays = s.byte();
+    let depth = s.byte();
     let values = s.bytes(32);
-    Position { plays, values }
+    Position {
+        plays,
+        depth,
+        values,
+    }
 }
 
 // A stored refusal. 1 to 9 are the file's, with their place; but 8 is also the call's. A call's has the place 0, where no RS stands.

@@ -2,9 +2,13 @@
 use position::Position;
 use trial_vectors::Stored;
 
-// The number of plays, and as many values.
+// The number of plays, and as many values. None is held.
 pub fn played(s: &mut Stored) -> Position {
     let plays = s.byte();
     let values = s.bytes(plays);
-    Position { plays, values }
+    Position {
+        plays,
+        depth: 0,
+        values,
+    }
 }

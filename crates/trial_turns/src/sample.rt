@@ -45,7 +45,11 @@ fn after(a: u8) -> Position {
     let mut values = [0u8; 32];
     values[1] = a;
     values[2] = 1;
-    Position { plays: 3, values }
+    Position {
+        plays: 3,
+        depth: 0,
+        values,
+    }
 }
 
 fn holds_one(conflict: u32) -> bool {

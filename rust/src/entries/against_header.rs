@@ -56,7 +56,7 @@ macro_rules! layout {
 fn structs_as_declared() {
     let header = structs(&code());
     let ours: [(&str, Layout); 18] = [
-        ("kb_position", layout!(Position: plays, values)),
+        ("kb_position", layout!(Position: plays, depth, values)),
         ("kb_reading", layout!(Reading: answer.kind, answer.number, answer.place, n, m, universal, given, rules, domains)),
         ("kb_found", layout!(Found: answer.kind, answer.number, answer.place, found, rows)),
         ("kb_written", layout!(Written: answer.kind, answer.number, answer.place, length)),
@@ -132,7 +132,7 @@ fn our_functions() -> Vec<String> {
 #[test]
 fn functions_as_declared() {
     let header = header_functions(&code());
-    assert_eq!(header.len(), 25);
+    assert_eq!(header.len(), 29);
     assert_eq!(header, our_functions());
 }
 

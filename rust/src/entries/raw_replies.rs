@@ -1,10 +1,10 @@
-//! Every field of refused replies: those that say nothing are zero, and a refused play hands its position back. And every field of rule 4's
-//! finished replies: zero where nothing is named.
+//! Every field of refused replies: those that say nothing are zero, and a refused play, take-back, lock or unlock hands its position back.
+//! And every field of rule 4's finished replies: zero where nothing is named.
 
 use super::*;
 use std::ptr::null;
 
-const MISFIT: Position = Position { plays: u64::MAX, values: [255; 32] };
+const MISFIT: Position = Position { plays: u64::MAX, depth: u64::MAX, values: [255; 32] };
 
 fn refused(kind: u64, number: u64) -> Answer {
     Answer { kind, number, place: 0 }
@@ -30,12 +30,16 @@ fn empty_file_with_any_pointer() {
             assert_eq!(kb_look_up(file, 0, 9, 9), Found { answer, ..Default::default() });
             assert_eq!(kb_play(file, 0, MISFIT, 99), Moved { answer, position: MISFIT });
             assert_eq!(kb_take_back(file, 0, MISFIT), Moved { answer, position: MISFIT });
+            assert_eq!(kb_lock(file, 0, MISFIT), Moved { answer, position: MISFIT });
+            assert_eq!(kb_unlock(file, 0, MISFIT, u64::MAX), Moved { answer, position: MISFIT });
             assert_eq!(kb_session_play(file, 0, &mut session, 99), answer);
             assert_eq!(kb_session_take_back(file, 0, &mut session), answer);
+            assert_eq!(kb_session_lock(file, 0, &mut session), answer);
+            assert_eq!(kb_session_unlock(file, 0, &mut session, u64::MAX), answer);
             assert_eq!(session, MISFIT);
             assert_eq!(kb_open(file, 0, MISFIT), Opened { answer, ..Default::default() });
-            assert_eq!(kb_judge(file, 0, MISFIT.plays, 1, 2, 3, 4, 256), Judgement { answer, won: 0 });
-            assert_eq!(kb_mark(file, 0, MISFIT.plays, 1, 2, 3, 4, 256), Marks { answer, ..Default::default() });
+            assert_eq!(kb_judge(file, 0, MISFIT.plays, MISFIT.depth, 1, 2, 3, 4, 256), Judgement { answer, won: 0 });
+            assert_eq!(kb_mark(file, 0, MISFIT.plays, MISFIT.depth, 1, 2, 3, 4, 256), Marks { answer, ..Default::default() });
             assert_eq!(kb_judge_in(file, 0, MISFIT, 256, at, 3), Judgement { answer, won: 0 });
             assert_eq!(kb_mark_in(file, 0, MISFIT, 256, at, 3), Marks { answer, ..Default::default() });
             assert_eq!(kb_search(file, 0, MISFIT, 256), Searched { answer, ..Default::default() });
@@ -60,6 +64,7 @@ fn empty_file_with_any_pointer() {
 fn refused_calls_with_any_pointer() {
     let (file, length) = (G7.as_ptr(), G7.len());
     let fresh = Position::default();
+    let held = Position::after(&[5]).unwrap().with_depth(1);
     for address in [0usize, 2, 4096, usize::MAX - 1] {
         let (words, bytes) = (address as *mut u16, address as *mut u8);
         let mut session = MISFIT;
@@ -69,12 +74,20 @@ fn refused_calls_with_any_pointer() {
             assert_eq!(kb_play(file, length, MISFIT, 5), Moved { answer: refused(1, 23), position: MISFIT });
             assert_eq!(kb_play(file, length, fresh, 4), Moved { answer: refused(1, 10), position: fresh });
             assert_eq!(kb_take_back(file, length, fresh), Moved { answer: refused(1, 21), position: fresh });
+            assert_eq!(kb_take_back(file, length, held), Moved { answer: refused(1, 24), position: held });
+            assert_eq!(kb_lock(file, length, MISFIT), Moved { answer: refused(1, 23), position: MISFIT });
+            assert_eq!(kb_unlock(file, length, MISFIT, u64::MAX), Moved { answer: refused(1, 23), position: MISFIT });
+            assert_eq!(kb_unlock(file, length, held, 1 << 32 | 1), Moved { answer: refused(1, 25), position: held });
             assert_eq!(kb_session_play(file, length, &mut session, 5), refused(1, 23));
             assert_eq!(kb_session_take_back(file, length, &mut session), refused(1, 23));
+            assert_eq!(kb_session_lock(file, length, &mut session), refused(1, 23));
+            assert_eq!(kb_session_unlock(file, length, &mut session, u64::MAX), refused(1, 23));
             assert_eq!(session, MISFIT);
             assert_eq!(kb_open(file, length, MISFIT), Opened { answer: refused(1, 23), ..Default::default() });
-            assert_eq!(kb_judge(file, length, 0, 0, 0, 0, 0, 128), Judgement { answer: refused(1, 8), won: 0 });
-            assert_eq!(kb_mark(file, length, 0, 0, 0, 0, 1 << 56, 127), Marks { answer: refused(1, 23), ..Default::default() });
+            assert_eq!(kb_judge(file, length, 0, 0, 0, 0, 0, 0, 128), Judgement { answer: refused(1, 8), won: 0 });
+            assert_eq!(kb_judge(file, length, 0, 1 << 32, 0, 0, 0, 0, 127), Judgement { answer: refused(1, 23), won: 0 });
+            assert_eq!(kb_mark(file, length, 0, 0, 0, 0, 0, 1 << 56, 127), Marks { answer: refused(1, 23), ..Default::default() });
+            assert_eq!(kb_mark(file, length, 0, 1, 0, 0, 0, 0, 127), Marks { answer: refused(1, 23), ..Default::default() });
             assert_eq!(kb_judge_in(file, length, fresh, 0, words, 0), Judgement { answer: refused(1, 12), won: 0 });
             assert_eq!(kb_mark_in(file, length, fresh, 0, words, 0), Marks { answer: refused(1, 12), ..Default::default() });
             assert_eq!(kb_search(file, length, MISFIT, 0), Searched { answer: refused(1, 23), ..Default::default() });

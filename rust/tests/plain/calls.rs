@@ -1,4 +1,4 @@
-//! Calls on a position: the plays that stand as a plain list, and the open values by their definition.
+//! Calls on a position: the plays that stand as a plain list with its lock depth, and the open values by their definition.
 
 use super::Problem;
 use kickballbox::{OpenValues, Position, Reason};
@@ -10,8 +10,10 @@ pub fn clashing(p: &Problem, plays: &[u8]) -> bool {
 
 /// Whether the file allows the position.
 pub fn fits(p: &Problem, at: &Position) -> bool {
-    let places = at.values.iter().enumerate();
-    at.plays <= p.domains.len() as u64 && places.into_iter().all(|(k, &v)| if (k as u64) < at.plays { p.has(k, v.into()) } else { v == 0 })
+    let mut places = at.values.iter().enumerate();
+    at.plays <= p.domains.len() as u64
+        && at.depth <= at.plays
+        && places.all(|(k, &v)| if (k as u64) < at.plays { p.has(k, v.into()) } else { v == 0 })
 }
 
 /// Why no unplayed variable has an open value, as bits: 1 two plays clash, 2 an unplayed existential variable has no value that goes with
@@ -49,35 +51,62 @@ pub fn open_values(p: &Problem, plays: &[u8]) -> OpenValues {
     opened
 }
 
-/// The plays that stand, fed by the problem and each call alone.
+/// A call of a history.
+#[derive(Clone, Copy, Debug, PartialEq, Eq)]
+pub enum Call {
+    Play(usize),
+    TakeBack,
+    Lock,
+    Unlock(usize),
+}
+
+impl Call {
+    /// The call that a replay takes a byte for.
+    pub fn of(byte: u8) -> Call {
+        match byte {
+            255 => Call::TakeBack,
+            254 => Call::Lock,
+            192..=253 => Call::Unlock(usize::from(byte) - 192),
+            _ => Call::Play(byte.into()),
+        }
+    }
+
+    /// The byte that a replay takes for it; none where there is none.
+    pub fn byte(self) -> Option<u8> {
+        (0..=255).find(|byte| Call::of(*byte) == self)
+    }
+}
+
+/// The plays that stand and how many of them are held, fed by the problem and each call alone.
 pub struct PlainList<'a> {
     problem: &'a Problem,
     pub plays: Vec<u8>,
+    pub depth: usize,
 }
 
 impl<'a> PlainList<'a> {
     pub fn new(problem: &'a Problem) -> PlainList<'a> {
-        PlainList { problem, plays: vec![] }
+        PlainList { problem, plays: vec![], depth: 0 }
     }
 
-    /// Adds a play, or tells why not.
-    pub fn play(&mut self, value: usize) -> Result<(), Reason> {
-        if self.plays.len() == self.problem.domains.len() {
-            Err(Reason::Full)
-        } else if !self.problem.has(self.plays.len(), value) {
-            Err(Reason::Option)
-        } else {
-            self.plays.push(value as u8);
-            Ok(())
+    /// Makes a call, or tells why not.
+    pub fn make(&mut self, call: Call) -> Result<(), Reason> {
+        let count = self.plays.len();
+        match call {
+            Call::Play(_) if count == self.problem.domains.len() => return Err(Reason::Full),
+            Call::Play(value) if !self.problem.has(count, value) => return Err(Reason::Option),
+            Call::Play(value) => self.plays.push(value as u8),
+            Call::TakeBack if count == 0 => return Err(Reason::Bare),
+            Call::TakeBack if count == self.depth => return Err(Reason::Locked),
+            Call::TakeBack => drop(self.plays.pop()),
+            Call::Lock => self.depth = count,
+            Call::Unlock(number) if number > self.depth => return Err(Reason::Depth),
+            Call::Unlock(number) => self.depth = number,
         }
-    }
-
-    /// Removes the last play, or tells why not.
-    pub fn take_back(&mut self) -> Result<(), Reason> {
-        self.plays.pop().map(drop).ok_or(Reason::Bare)
+        Ok(())
     }
 
     pub fn position(&self) -> Position {
-        Position::after(&self.plays).expect("at most 32 plays")
+        Position::after(&self.plays).expect("at most 32 plays").with_depth(self.depth as u64)
     }
 }

@@ -98,15 +98,16 @@ pub fn problem(kind: &Kind, random: &mut Random) -> Problem {
     p
 }
 
-/// A position of some plays, each in its domain.
+/// A position of some plays, each in its domain, as [`position_after`] has it.
 pub fn some_position(p: &Problem, random: &mut Random) -> Position {
     let n = p.domains.len() as u64;
     let plays = if random.chance(50) { random.below(2) } else { random.below(n + 1) };
     position_after(p, plays, random)
 }
 
-/// A position of so many plays, each in its domain.
+/// A position of so many plays, each in its domain. Half the time any number of them is held, else none.
 pub fn position_after(p: &Problem, plays: u64, random: &mut Random) -> Position {
-    let plays: Vec<u8> = p.domains[..plays as usize].iter().map(|domain| random.value(*domain)).collect();
-    Position::after(&plays).expect("at most 32 plays")
+    let values: Vec<u8> = p.domains[..plays as usize].iter().map(|domain| random.value(*domain)).collect();
+    let depth = if random.chance(50) { 0 } else { random.below(plays + 1) };
+    Position::after(&values).expect("at most 32 plays").with_depth(depth)
 }

@@ -10,7 +10,7 @@ pub mod qdimacs;
 mod rules;
 mod text;
 
-pub use calls::{causes, clashing, fits, open_values, PlainList};
+pub use calls::{causes, clashing, fits, open_values, Call, PlainList};
 pub use game::Game;
 pub use generator::{position_after, problem, some_position, Kind, Random};
 pub use text::text;

@@ -1,13 +1,17 @@
-use mathlib.Core.Path.{ap, ◌∙◌}
+use mathlib.Core.Path.{refl, ap, ◌∙◌}
 use Rattle.session.specs.Told.{left}
-use Rattle.history.proofs.ByteLaws.{by_take_back, by_play}
+use Rattle.session.specs.History.{step}
+use Rattle.history.specs.Replay.{as_call}
 use Rattle.history.proofs.called.Goals as goal
-use Rattle.history.proofs.called.Goals.{then-call-eq255, else-call-eq255}
+use Rattle.history.proofs.called.Goals.{in-Play, in-TakeBack, in-Lock, in-Unlock}
 
 pub returns : goal.returns
+unfolding step as_call
 returns c =
     c.left.ensures
-    ∙ elim c.if-call-eq255.branch [
-      | then-call-eq255 w ↦ by_take_back _ _ _ _ w.if-call-eq255.true (ap (left _) w.reply-is ∙ w.take_back-reply.ensures.position_value)
-      | else-call-eq255 w ↦ by_play _ _ _ _ w.if-call-eq255.false (ap (left _) w.reply-is ∙ w.play-reply.ensures.position_value)
+    ∙ elim c.match-call.branch [
+      | in-Play w ↦ ap (left _) w.reply-is ∙ w.play-reply.ensures.position_value ∙ rw w.in-Play.is refl
+      | in-TakeBack w ↦ ap (left _) w.reply-is ∙ w.take_back-reply.ensures.position_value ∙ rw w.in-TakeBack.is refl
+      | in-Lock w ↦ ap (left _) w.reply-is ∙ w.lock-reply.ensures.position_value ∙ rw w.in-Lock.is refl
+      | in-Unlock w ↦ ap (left _) w.reply-is ∙ w.unlock-reply.ensures.position_value ∙ rw w.in-Unlock.is refl
     ]

@@ -34,5 +34,11 @@ returns c =
       opened_value = opened at.After-open_values-opened;
       masks_value = (e.0 ∙ ap (masks_shown a.f.now) (over at.After-reached-p), e.1 ∙ ap (counts_shown a.f.now) (over at.After-reached-p));
       room_after = c.mark-marks.ensures.room_after ∙ ap (λ (p : Position). mark_left a.f.now p a.set a.room.now) (over at.After-reached-p);
-      demand3 = λ fine. let t = demand_3 a.f.now fine (calls_of a.calls.now) a.set (length a.room.now) in (λ s r. marks-are at.After-mark-marks ∙ t.0 s r, opened at.After-open_values-opened ∙ t.1);
+      demand3 = λ fine. let t = demand_3 a.f.now fine (calls_of a.calls.now) a.set (length a.room.now) in record {
+        shows = t.shows;
+        marked = λ s r. marks-are at.After-mark-marks ∙ t.marked s r;
+        opens = opened at.After-open_values-opened ∙ t.opens;
+        tells = t.tells;
+        stays = t.stays;
+      };
     }
