@@ -1,10 +1,10 @@
-use mathlib.Core.Path.{◌≡◌, refl, ◌∙◌}
+use mathlib.Core.Path.{◌≡◌, refl}
 use mathlib.Core.Bool.{Bool, true, false, not, cond}
 use Prim.Native.Nat.{ℕ, ◌<◌}
 use native.Mathlib.Omega.{arith}
 use lib.Dec.{eqb, ltb}
 use borrow.Author.Tests.{lt-ltb, le-ltb}
-use Rattle.std.specs.Prelude.{Result, Ok, Err, OkIff, Option, None, Some}
+use Rattle.std.specs.Prelude.{Result, Ok, Err, OkIff, None, Some}
 use Rattle.std.specs.Bool.{then_some}
 use Rattle.std.specs.Result.{result_unwrap_or}
 use Rattle.host.specs.Handed.{byte_handed}
