@@ -12,27 +12,28 @@
 #include <stdarg.h>
 
 typedef enum {
-    INTERFACE, READ, LOOK_UP, WRITE, REPORT, PLAY, TAKE_BACK, LOCK, UNLOCK, SESSION_PLAY, SESSION_TAKE_BACK, SESSION_LOCK, SESSION_UNLOCK,
-    OPEN, JUDGE, MARK, JUDGE_IN, MARK_IN, SEARCH, REPLAY, ARC, FORWARD_CHECK, LOOK_AHEAD, PURE, INTERCHANGEABLE, FORMULA, JUDGE_FORMULA,
-    GROUPS, GROUP, ENTRIES
+    INTERFACE, READ, LOOK_UP, LOOK_UP_TRIPLES, WRITE, REPORT, PLAY, TAKE_BACK, LOCK, UNLOCK, SESSION_PLAY, SESSION_TAKE_BACK, SESSION_LOCK,
+    SESSION_UNLOCK, OPEN, JUDGE, MARK, JUDGE_IN, MARK_IN, SEARCH, REPLAY, ARC, FORWARD_CHECK, LOOK_AHEAD, PURE, INTERCHANGEABLE, FORMULA,
+    JUDGE_FORMULA, GROUPS, GROUP, ENTRIES
 } entry;
 
 static const char *const names[ENTRIES] = {
-    "kb_interface", "kb_read", "kb_look_up", "kb_write", "kb_report", "kb_play", "kb_take_back", "kb_lock", "kb_unlock", "kb_session_play",
-    "kb_session_take_back", "kb_session_lock", "kb_session_unlock", "kb_open", "kb_judge", "kb_mark", "kb_judge_in", "kb_mark_in",
-    "kb_search", "kb_replay", "kb_arc", "kb_forward_check", "kb_look_ahead", "kb_pure", "kb_interchangeable", "kb_formula",
-    "kb_judge_formula", "kb_groups", "kb_group",
+    "kb_interface", "kb_read", "kb_look_up", "kb_look_up_triples", "kb_write", "kb_report", "kb_play", "kb_take_back", "kb_lock",
+    "kb_unlock", "kb_session_play", "kb_session_take_back", "kb_session_lock", "kb_session_unlock", "kb_open", "kb_judge", "kb_mark",
+    "kb_judge_in", "kb_mark_in", "kb_search", "kb_replay", "kb_arc", "kb_forward_check", "kb_look_ahead", "kb_pure",
+    "kb_interchangeable", "kb_formula", "kb_judge_formula", "kb_groups", "kb_group",
 };
 
 /* The most bytes that a call is lent, whole pages. */
 enum { MOST = 16 * PAGE };
 
-/* What a call is given. `job` has the numbers of the file; `number` and `place` say why the file is refused, 0 and 0 if it is accepted.
-   `text` is the text of the job's formula, its first MOST bytes; `soon` says that its judge ends soon, however many booleans it has. `lent`
-   is the memory that the call may write, or the list that it reads, and `size` its bytes; `list` is what a lent list holds. From n on
-   stands what kb_write is handed, its rule set as `set`. */
+/* What a call is given. `job` has the numbers of the file, `whole` those of its ordinary job; `number` and `place` say why the file is
+   refused, 0 and 0 if it is accepted. `record` is a place among its tables over three choices. `text` is the text of the job's formula, its
+   first MOST bytes; `soon` says that its judge ends soon, however many booleans it has. `lent` is the memory that the call may write, or the
+   list that it reads, and `size` its bytes; `list` is what a lent list holds. From n on stands what kb_write is handed, its rule set as
+   `set`. */
 typedef struct {
-    const job *job;
+    const job *job, *whole;
     const uint8_t *file;
     size_t length;
     uint64_t number, place;
@@ -40,15 +41,15 @@ typedef struct {
     size_t text_length;
     int soon;
     kb_position position;
-    uint64_t rules, option, unlock_to, i, j, x, a, group;
+    uint64_t rules, option, unlock_to, i, j, record, x, a, group;
     const uint8_t *calls;
     size_t call_count;
     uint16_t list[40];
     uint8_t *lent;
     size_t size;
     uint64_t n, m, given, set, universal;
-    const uint16_t *domains, *tables;
-    size_t domain_count, table_count;
+    const uint16_t *domains, *tables, *triples;
+    size_t domain_count, table_count, triple_count;
 } arguments;
 
 /* What a call replies, and the memory lent to it afterwards. No reply has padding. */
@@ -58,6 +59,7 @@ typedef struct {
         kb_answer answer;
         kb_reading reading;
         kb_found found;
+        kb_found_triples found_triples;
         kb_written written;
         kb_moved moved;
         kb_opened opened;
@@ -91,25 +93,25 @@ static int by_value(entry e) { return e >= PLAY && e <= UNLOCK; }
 static int lends_session(entry e) { return e >= SESSION_PLAY && e <= SESSION_UNLOCK; }
 static int lends_room(entry e) { return e == JUDGE_IN || e == MARK_IN; }
 static int writes_formula(entry e) { return e == FORMULA || e == JUDGE_FORMULA; }
-static size_t room_bytes(const job *j) { return 2 * 128 * (j->n + 1); }
+static size_t room_bytes(const job *j) { return 2 * 128 * (j->n + record_count(j) + 1); }
 
 /* The length of the file of the group asked for; of the whole file where there is no such group. */
 static size_t asked_length(const arguments *g) {
     uint32_t groups[32];
-    return g->group < groups_of(g->job, groups) ? group_length(g->job, groups[g->group]) : job_length(g->job);
+    return g->group < groups_of(g->whole, groups) ? group_length(g->whole, groups[g->group]) : job_length(g->whole);
 }
 
 /* How much memory this entry is lent in an ordinary call. A formula's text of more than MOST bytes does not fit then. */
 static size_t ordinary_size(entry e, const arguments *g) {
     const job *j = g->job;
     return e == WRITE ? job_length(j) : e == REPORT ? KB_TEXT : lends_session(e) ? sizeof(kb_session) : lends_room(e) ? room_bytes(j)
-         : lends_list(e) ? 2 * j->n : writes_formula(e) ? (g->text_length < MOST ? g->text_length : MOST) : e == GROUP ? asked_length(g) : 0;
+         : lends_list(e) ? 2 * g->whole->n : writes_formula(e) ? (g->text_length < MOST ? g->text_length : MOST) : e == GROUP ? asked_length(g) : 0;
 }
 
 /* Whether to make the call with this much memory. The judge of formulas may go through all values of all booleans: it is asked only where
    these are few, where it is known to end soon, and where it refuses. */
 static int asked(entry e, const arguments *g, size_t size) {
-    return e != JUDGE_FORMULA || g->number != 0 || size < g->text_length || g->soon || boolean_count(g->job) <= 24;
+    return e != JUDGE_FORMULA || g->number != 0 || size < g->text_length || g->soon || boolean_count(g->whole) <= 24;
 }
 
 /* What the lent memory holds before the call. */
@@ -131,9 +133,10 @@ static void call(entry e, const arguments *g, outcome *o) {
     case INTERFACE: o->reply.interface = kb_interface(); break;
     case READ: o->reply.reading = kb_read(f, l); break;
     case LOOK_UP: o->reply.found = kb_look_up(f, l, g->i, g->j); break;
+    case LOOK_UP_TRIPLES: o->reply.found_triples = kb_look_up_triples(f, l, g->record); break;
     case WRITE:
         o->reply.written = kb_write(g->lent, g->size, g->n, g->m, g->given, g->set, g->universal, g->domains, g->domain_count, g->tables,
-                                    g->table_count);
+                                    g->table_count, g->triples, g->triple_count);
         break;
     case REPORT: o->reply.written = kb_report(f, l, g->lent, g->size); break;
     case PLAY: o->reply.moved = kb_play(f, l, g->position, g->option); break;
@@ -169,11 +172,29 @@ static void call(entry e, const arguments *g, outcome *o) {
 
 /* ---- what the header says of a call */
 
+/* Whether the list of tables over three choices stops within one. */
+static int stops_within(const arguments *g) {
+    size_t at = 0, left;
+    while ((left = g->triple_count - at) >= 4 && (left - 4) / 3 >= g->triples[at + 3]) at += 4 + 3u * g->triples[at + 3];
+    return left != 0;
+}
+
+/* Whether this is no table over three choices, the last before it having the number `last`, or 0. */
+static int no_record(const arguments *g, const uint16_t *r, uint32_t last) {
+    if (r[0] >= r[1] || r[1] >= r[2] || r[2] >= g->n || r[3] < 1 || r[3] > 16 || last >= 1024u * r[0] + 32u * r[1] + r[2]) return 1;
+    for (const uint16_t *t = r + 4; t < r + 4 + 3 * r[3]; t += 3) {
+        for (int k = 0; k < 3; k++)
+            if (!has(g->domains[r[k]], t[k])) return 1;
+        if (t > r + 4 && 256 * t[-3] + 16 * t[-2] + t[-1] >= 256 * t[0] + 16 * t[1] + t[2]) return 1;
+    }
+    return 0;
+}
+
 /* Why kb_write refuses these numbers, the buffer's length aside. */
 static uint64_t refused_write(const arguments *g) {
     uint64_t n = g->n, above = 0;
     if (n < 1 || n > 32 || g->m > n * (n - 1) / 2) return 3;
-    if (g->domain_count != n || g->table_count != TABLE * g->m) return 13;
+    if (g->domain_count != n || g->table_count != TABLE * g->m || stops_within(g)) return 13;
     if (g->given != 0 && g->set > 127) return 8;
     if (g->universal >> n) return 11;
     for (uint64_t k = 0; k < n; k++)
@@ -185,13 +206,21 @@ static uint64_t refused_write(const arguments *g) {
         for (unsigned a = 0; a < 16; a++)
             if ((!has(g->domains[t[0]], a) && t[2 + a]) || (t[2 + a] & ~g->domains[t[1]])) return 7;
     }
+    uint64_t all = n;
+    uint32_t last = 0;
+    for (size_t at = 0; at < g->triple_count; at += 4 + 3u * g->triples[at + 3]) {
+        const uint16_t *r = g->triples + at;
+        if (++all > 32) return 27;
+        if (no_record(g, r, last)) return 26;
+        last = 1024u * r[0] + 32u * r[1] + r[2];
+    }
     return 0;
 }
 
 static int fits_list(const arguments *g) {
-    if (g->size != 2 * g->job->n) return 0;
-    for (uint64_t k = 0; k < g->job->n; k++)
-        if (g->list[k] == 0 || g->list[k] & ~g->job->domains[k]) return 0;
+    if (g->size != 2 * g->whole->n) return 0;
+    for (uint64_t k = 0; k < g->whole->n; k++)
+        if (g->list[k] == 0 || g->list[k] & ~g->whole->domains[k]) return 0;
     return 1;
 }
 
@@ -204,11 +233,11 @@ static uint64_t refused(entry e, const arguments *g) {
     if (e == REPLAY) return g->rules > 127 ? 8 : 0;
     if (e < PLAY) return 0;
     if (writes_formula(e)) return g->size < g->text_length ? 12 : 0;
-    if (e == GROUP) return g->group < groups_of(j, groups) ? 0 : 11;
+    if (e == GROUP) return g->group < groups_of(g->whole, groups) ? 0 : 11;
     if (e == GROUPS) return 0;
     if (lends_list(e)) {
         if (!fits_list(g)) return 13;
-        if (e != ARC && g->x >= j->n) return 11;
+        if (e != ARC && g->x >= g->whole->n) return 11;
         return e == FORWARD_CHECK && !has(g->list[g->x], g->a) ? 10 : 0;
     }
     if (e >= JUDGE && g->rules > 127) return 8;
@@ -252,11 +281,11 @@ static void written(const arguments *g, outcome *o, const void *bytes, size_t le
 }
 
 /* The fields of a finished search that the model does not know are taken from the reply, if they can hold: the list is within the
-   position's; a conflict set has choices played alone; a leaf breaks no table and begins with the plays. */
+   position's; a conflict set has choices played alone; a leaf breaks no table and begins with the plays. They are the ordinary job's. */
 static void searched(const arguments *g, kb_searched *want, const kb_searched *got) {
-    const job *j = g->job;
+    const job *j = g->whole;
     int good = got->loss <= 1 && !(got->won && got->loss), leaf = 1;
-    want->won = (uint64_t)verdict(j, g->position);
+    want->won = (uint64_t)verdict(g->job, g->position);
     for (uint64_t k = 0; k < 32; k++) {
         uint16_t mask = k >= j->n ? 0 : k < g->position.plays ? (uint16_t)(1u << g->position.values[k]) : j->domains[k];
         good &= (got->list[k] & ~mask) == 0;
@@ -280,7 +309,7 @@ static void moved(entry e, outcome *o, const kb_position *p) {
 static void expect(entry e, const arguments *g, outcome *o, const outcome *got) {
     static uint8_t bytes[KB_FILE];
     char text[KB_TEXT + 1];
-    const job *j = g->job;
+    const job *j = g->job, *whole = g->whole;
     uint16_t list[40];
     uint32_t groups[32];
     memset(&o->reply, 0, sizeof o->reply);
@@ -306,14 +335,21 @@ static void expect(entry e, const arguments *g, outcome *o, const outcome *got) 
     kb_position p = g->position;
     switch (e) {
     case READ:
-        o->reply.reading = (kb_reading){0, 0, 0, j->n, j->m, j->universal, j->given != 0, j->given ? j->rules : 3, {0}};
+        o->reply.reading = (kb_reading){0, 0, 0, j->n, j->m, record_count(j), j->universal, j->given != 0, j->given ? j->rules : 3, {0}};
         memcpy(o->reply.reading.domains, j->domains, 2 * j->n);
         break;
     case LOOK_UP: {
         const uint16_t *t = table(j, g->i, g->j);
         if (t == NULL) break;
         uint64_t behind = j->m - (uint64_t)(t - j->tables) / TABLE;
-        o->reply.found = (kb_found){0, 0, 0, 1, job_length(j) - 2 - 36 * behind + 4};
+        o->reply.found = (kb_found){0, 0, 0, 1, records_at(j) - 36 * behind + 4};
+        break;
+    }
+    case LOOK_UP_TRIPLES: {
+        uint64_t record = 0;
+        for EACH_RECORD(r, j)
+            if (record++ == g->record)
+                o->reply.found_triples = (kb_found_triples){0, 0, 0, 1, records_at(j) + 2 * record + (size_t)(r - j->triples), 4 + 3u * r[3]};
         break;
     }
     case WRITE: {
@@ -321,6 +357,8 @@ static void expect(entry e, const arguments *g, outcome *o, const outcome *got) 
         own = (job){.n = g->n, .m = g->m, .given = g->given, .rules = g->set, .universal = g->universal};
         memcpy(own.domains, g->domains, 2 * g->n);
         if (g->m != 0) memcpy(own.tables, g->tables, 2 * TABLE * g->m);
+        own.triple_count = g->triple_count;
+        if (g->triple_count != 0) memcpy(own.triples, g->triples, 2 * g->triple_count);
         job_bytes(&own, bytes);
         written(g, o, bytes, job_length(&own));
         break;
@@ -340,14 +378,14 @@ static void expect(entry e, const arguments *g, outcome *o, const outcome *got) 
         if (number == 0) marks_of(j, p, &o->reply.replayed.marks);
         open_options(j, &p, &o->reply.replayed.opened);
         break;
-    case ARC: o->reply.ruled.lost = (uint64_t)arc(j, list), memcpy(o->lent, list, g->size); break;
+    case ARC: o->reply.ruled.lost = (uint64_t)arc(whole, list), memcpy(o->lent, list, g->size); break;
     case FORWARD_CHECK:
-        o->reply.checked.lost = (uint64_t)forward(j, list, g->x, (unsigned)g->a, &o->reply.checked.variable);
+        o->reply.checked.lost = (uint64_t)forward(whole, list, g->x, (unsigned)g->a, &o->reply.checked.variable);
         memcpy(o->lent, list, g->size);
         break;
-    case LOOK_AHEAD: o->reply.looked.lost = (uint64_t)ahead(j, list, g->x, &o->reply.looked.value, &o->reply.looked.variable); break;
-    case PURE: pure(j, list, g->x, &o->reply.named_values); break;
-    case INTERCHANGEABLE: o->reply.values.values = unlike_smaller(j, list, g->x); break;
+    case LOOK_AHEAD: o->reply.looked.lost = (uint64_t)ahead(whole, list, g->x, &o->reply.looked.value, &o->reply.looked.variable); break;
+    case PURE: pure(whole, list, g->x, &o->reply.named_values); break;
+    case INTERCHANGEABLE: o->reply.values.values = unlike_smaller(whole, list, g->x); break;
     case FORMULA:
         o->reply.written.length = g->text_length;
         memcpy(o->lent, g->text, g->text_length);
@@ -357,14 +395,14 @@ static void expect(entry e, const arguments *g, outcome *o, const outcome *got) 
         memcpy(o->lent, g->text, g->text_length);
         break;
     case GROUPS:
-        o->reply.group_list.count = groups_of(j, groups);
-        for (uint64_t k = 0; k < j->n; k++)
+        o->reply.group_list.count = groups_of(whole, groups);
+        for (uint64_t k = 0; k < whole->n; k++)
             while (!(groups[o->reply.group_list.group[k]] >> k & 1)) o->reply.group_list.group[k]++;
         break;
     case GROUP: {
         static job own;
-        groups_of(j, groups);
-        group_job(j, groups[g->group], &own);
+        groups_of(whole, groups);
+        group_job(whole, groups[g->group], &own);
         job_bytes(&own, bytes);
         written(g, o, bytes, job_length(&own));
         break;
@@ -395,7 +433,7 @@ static void attempt(const char *what, entry e, const arguments *g) {
 /* ---- memory to lend */
 
 enum { HEAP, LOW, HIGH, WAYS };
-enum { FILES, LENT, LISTS, PLACES };
+enum { FILES, LENT, LISTS, TRIPLES, PLACES };
 
 static uint8_t *arenas[PLACES];
 static void *blocks[PLACES];
@@ -416,15 +454,18 @@ static void *lend_copy(int place, int way, const void *bytes, size_t size) {
 
 static uint8_t bytes[KB_FILE + 1], formula[MOST];
 
-/* An ordinary call on this job, its file in `bytes` and its formula's text in `formula`. */
+/* An ordinary call on this job, its file in `bytes`, its ordinary job in `whole` and its formula's text in `formula`. */
 static arguments ordinary(const job *j) {
+    static job whole;
     static const uint8_t calls[] = {0, 254, 2, 255, 255, 193, 192, 255, 255, 254, 2, 7, 15, 195};
-    arguments g = {.job = j, .file = bytes, .length = job_length(j), .text = formula, .rules = 127, .j = 1, .calls = calls,
+    arguments g = {.job = j, .whole = &whole, .file = bytes, .length = job_length(j), .text = formula, .rules = 127, .j = 1, .calls = calls,
                    .call_count = sizeof calls, .n = j->n, .m = j->m, .given = j->given, .set = j->rules, .universal = j->universal,
-                   .domains = j->domains, .domain_count = j->n, .tables = j->tables, .table_count = TABLE * j->m};
+                   .domains = j->domains, .domain_count = j->n, .tables = j->tables, .table_count = TABLE * j->m,
+                   .triples = j->triples, .triple_count = j->triple_count};
     job_bytes(j, bytes);
-    g.text_length = formula_text(j, formula, sizeof formula);
-    memcpy(g.list, j->domains, sizeof j->domains);
+    ordinary_job(j, &whole);
+    g.text_length = formula_text(&whole, formula, sizeof formula);
+    memcpy(g.list, whole.domains, sizeof whole.domains);
     return g;
 }
 
@@ -469,6 +510,7 @@ static void some_job(job *j) {
     make_job(j, 1 + drawn() % 5, options[drawn() % 4], drawn() % 70, 30 + drawn() % 71, drawn() % 60);
     for (uint64_t k = 0; k < j->n; k++)
         if (drawn() % 4 == 0) narrow(j, k, (uint16_t)(1u << some_option(j->domains[k])));
+    if (drawn() % 2 == 0) add_triples(j, drawn() % 3, 1 + drawn() % 6);
     j->given = drawn() % 2, j->rules = drawn() % 128;
 }
 
@@ -483,14 +525,15 @@ static void some_numbers(arguments *g, uint64_t plays) {
     const job *j = g->job;
     uint32_t groups[32];
     g->position = some_position(j, plays);
-    for (uint64_t k = 0; k < j->n; k++) {
-        g->list[k] = j->domains[k] & (uint16_t)drawn();
-        if (g->list[k] == 0) g->list[k] = j->domains[k];
+    for (uint64_t k = 0; k < g->whole->n; k++) {
+        g->list[k] = g->whole->domains[k] & (uint16_t)drawn();
+        if (g->list[k] == 0) g->list[k] = g->whole->domains[k];
     }
     g->rules = drawn() % 128, g->option = some_option(j->domains[plays % j->n]), g->unlock_to = drawn() % (g->position.depth + 1);
     g->j = drawn() % j->n, g->i = g->j ? drawn() % g->j : 0;
-    g->x = drawn() % j->n, g->a = some_option(g->list[g->x]);
-    g->group = drawn() % groups_of(j, groups);
+    g->record = drawn() % (record_count(j) + 1);
+    g->x = drawn() % g->whole->n, g->a = some_option(g->list[g->x]);
+    g->group = drawn() % groups_of(g->whole, groups);
 }
 
 /* ---- the parts */
@@ -505,8 +548,8 @@ static void nothing(void) {
         uint8_t *nowhere = k ? unreadable : NULL;
         kb_session session;
         for (entry e = 0; e < ENTRIES; e++) {
-            arguments g = {.job = &none, .file = nowhere, .number = 1, .calls = nowhere, .lent = nowhere, .domains = (void *)nowhere,
-                           .tables = (void *)nowhere};
+            arguments g = {.job = &none, .whole = &none, .file = nowhere, .number = 1, .calls = nowhere, .lent = nowhere,
+                           .domains = (void *)nowhere, .tables = (void *)nowhere, .triples = (void *)nowhere};
             if (lends_session(e)) g.lent = (void *)&session, g.size = sizeof session;
             attempt("no file", e, &g);
             make_job(&made, 2, 3, 50, 100, 20);
@@ -519,6 +562,12 @@ static void nothing(void) {
             g = ordinary(&made);
             g.lent = nowhere, g.tables = (void *)nowhere, g.table_count = 0;
             if (e == WRITE) attempt("no tables", e, &g);
+            make_job(&made, 3, 3, 50, 100, 20);
+            add_triples(&made, 1, 4);
+            g = ordinary(&made);
+            g.triples = (void *)nowhere, g.triple_count = 0;
+            if (e == WRITE) attempt_with("no triples", e, g, HEAP, job_length(&made));
+            if (e == LOOK_UP_TRIPLES) attempt("triples", e, &g);
         }
     }
 }
@@ -551,9 +600,15 @@ static uint64_t cut_record(const job *j, size_t length) {
     for (uint64_t k = 0; next <= length; k++) {
         uint64_t v = k - (j->given ? 1 : 0);
         place = next;
-        next += j->given && k == 0 ? 3 : v < j->n ? 4 : v < j->n + j->m ? 36 : 2;
+        if ((!j->given || k > 0) && v >= j->n + j->m) break;
+        next += j->given && k == 0 ? 3 : v < j->n ? 4 : 36;
     }
-    return place;
+    if (next > length) return place;
+    for EACH_RECORD(r, j) {
+        if (next + 6 + 3 * r[3] > length) return next;
+        next += 6 + 3 * r[3];
+    }
+    return next;
 }
 
 /* Files cut anywhere and one byte too long, in memory of exactly that size; the other arguments allowed, then all of them wrong. */
@@ -569,7 +624,7 @@ static void cuts_of(const job *j, size_t by) {
         for (int wrong = 0; wrong < 2; wrong++) {
             if (wrong) {
                 h.rules = 256, h.list[0] = 0;
-                h.position.plays = h.position.depth = h.unlock_to = h.i = h.x = h.a = h.option = h.group = UINT64_MAX;
+                h.position.plays = h.position.depth = h.unlock_to = h.i = h.record = h.x = h.a = h.option = h.group = UINT64_MAX;
             }
             for (int way = 0; way < WAYS; way++) {
                 h.file = lend_copy(FILES, way, bytes, length);
@@ -590,6 +645,12 @@ static void cuts(void) {
     cuts_of(&made, 1);
     make_job(&made, 5, 0x8005, 40, 80, 30);
     cuts_of(&made, step(37));
+    for (uint64_t records = 1; records < 4; records++) {
+        make_job(&made, 3 + records % 2, 0x8005, 40, 10, 30);
+        made.given = records % 2;
+        add_triples(&made, records, 16);
+        cuts_of(&made, step(11));
+    }
     make_job(&made, 32, 0xffff, 30, 100, 50);
     cuts_of(&made, threads < 64 ? 4999 : 97);
 }
@@ -602,11 +663,11 @@ static uint64_t edge(uint64_t k) {
     return from[k / AROUND] + k % AROUND - 2;
 }
 
-enum { NUMBERS = 15 };
+enum { NUMBERS = 16 };
 
 static uint64_t *number_of(arguments *g, uint64_t which) {
-    uint64_t *const all[NUMBERS] = {&g->rules, &g->option, &g->unlock_to, &g->i, &g->j, &g->x, &g->a, &g->group, &g->position.plays,
-                                    &g->position.depth, &g->n, &g->m, &g->given, &g->set, &g->universal};
+    uint64_t *const all[NUMBERS] = {&g->rules, &g->option, &g->unlock_to, &g->i, &g->j, &g->record, &g->x, &g->a, &g->group,
+                                    &g->position.plays, &g->position.depth, &g->n, &g->m, &g->given, &g->set, &g->universal};
     return all[which];
 }
 
@@ -627,7 +688,7 @@ static void numbers(void) {
                 h = g;
                 h.i = h.x = edge(k), h.j = h.a = edge(l);
                 attempt_with("a pair at an edge", LOOK_UP, h, HEAP, 0);
-                attempt_with("a choice and an option at an edge", FORWARD_CHECK, h, HEAP, 2 * made.n);
+                attempt_with("a choice and an option at an edge", FORWARD_CHECK, h, HEAP, 2 * h.whole->n);
             }
     }
     make_job(&made, 32, 3, 30, 3, 0);
@@ -645,7 +706,7 @@ static void several(void) {
         arguments g = ordinary(&made);
         some_numbers(&g, drawn() % (made.n + 1));
         for (uint64_t k = drawn() % 5; k > 0; k--) *number_of(&g, drawn() % NUMBERS) = edge(drawn() % EDGES);
-        if (drawn() % 4 == 0) g.list[drawn() % made.n] = drawn() % 2 ? 0 : 0xffff;
+        if (drawn() % 4 == 0) g.list[drawn() % g.whole->n] = drawn() % 2 ? 0 : 0xffff;
         if (drawn() % 4 == 0) g.position.values[drawn() % 32] = (uint8_t)drawn();
         for (entry e = 0; e < ENTRIES; e++) {
             size_t size = ordinary_size(e, &g);
@@ -667,9 +728,11 @@ static void positions(void) {
                 if (value % 16 == 1 || place < made.n) attempt_with("a byte of a position", JUDGE, g, HEAP, 0);
             }
     for (uint64_t round = 0; round < 40; round += step(4)) {
-        make_job(&made, 32, 6, 30, 5, 20);
+        uint64_t records = round % 2 ? drawn() % 9 : 0;
+        make_job(&made, 32 - records, 6, 30, 5, 20);
+        add_triples(&made, records, 8);
         g = ordinary(&made);
-        g.position = some_position(&made, 28 + round % 5);
+        g.position = some_position(&made, made.n - 4 + round % 5);
         for (entry e = PLAY; e <= SEARCH; e++) attempt_with("a long game", e, g, HEAP, ordinary_size(e, &g));
     }
 }
@@ -701,9 +764,10 @@ static void wrong_lists(void) {
     for (uint64_t round = 0; round < 3000; round += step(10)) {
         some_job(&made);
         arguments g = ordinary(&made);
-        uint16_t domains[32], tables[10 * TABLE];
+        uint16_t domains[32], tables[10 * TABLE], triples[5 * RECORD] = {0};
         memcpy(domains, made.domains, sizeof domains);
         memcpy(tables, made.tables, sizeof tables);
+        memcpy(triples, made.triples, 2 * made.triple_count);
         for (uint64_t k = 0; k < 1 + round % 2; k++) {
             static const uint16_t odd[] = {0, 1, 2, 0x8000, 0xffff, 0x8005, 0x7ffa, 4};
             size_t at = drawn() % (made.n + TABLE * made.m), head = (at - made.n) / TABLE * TABLE;
@@ -715,8 +779,98 @@ static void wrong_lists(void) {
         g.table_count = TABLE * made.m - (made.m != 0 && drawn() % 16 == 0) + (made.m < 10 && drawn() % 16 == 0);
         g.domains = lend_copy(LISTS, way, domains, 2 * g.domain_count);
         g.tables = lend_copy(FILES, way, tables, 2 * g.table_count);
+        g.triples = lend_copy(TRIPLES, way, triples, 2 * g.triple_count);
         attempt_with("a wrong list", WRITE, g, way, job_length(&made) - (drawn() % 4 == 0));
     }
+}
+
+/* Tables over three choices as kb_write is handed them: the list cut anywhere, one number of it any of these, two records in each other's
+   place, a record twice; with some fault of what is tested before, or a buffer that is too short. */
+static void wrong_triples(void) {
+    for (uint64_t round = 0; round < 400; round += step(20)) {
+        make_job(&made, 3 + drawn() % 3, 0x8005, 30, 20, 30);
+        add_triples(&made, 1 + drawn() % 4, 16);
+        arguments g = ordinary(&made);
+        uint16_t triples[5 * RECORD];
+        size_t count = made.triple_count;
+        memcpy(triples, made.triples, sizeof triples);
+        if (drawn() % 8 == 0) g.universal = UINT64_MAX;
+        if (drawn() % 8 == 0) g.given = 1, g.set = 128;
+        for (size_t at = 0; at <= count; at++) {
+            int way = (int)((round + at) % WAYS);
+            size_t size = job_length(&made) - (drawn() % 4 == 0);
+            g.triple_count = at;
+            g.triples = lend_copy(TRIPLES, way, triples, 2 * at);
+            attempt_with("triples cut", WRITE, g, way, size);
+            if (at == count) continue;
+            static const uint16_t odd[] = {0, 1, 2, 3, 4, 5, 15, 16, 17, 31, 32, 255, 256, 257, 258, 0x8000, 0xff00, 0xffff};
+            uint16_t before = triples[at];
+            triples[at] = drawn() % 3 ? odd[drawn() % (sizeof odd / sizeof odd[0])] : (uint16_t)(before + 256 * (drawn() % 256));
+            g.triple_count = count;
+            g.triples = lend_copy(TRIPLES, way, triples, 2 * count);
+            attempt_with("a wrong triple", WRITE, g, way, size);
+            triples[at] = before;
+        }
+        size_t first = 4 + 3u * triples[3];
+        memmove(triples, triples + first, 2 * (count - first));
+        memcpy(triples + count - first, made.triples, 2 * first);
+        g.triples = lend_copy(TRIPLES, LOW, triples, 2 * count), g.triple_count = count;
+        attempt_with("the first record last", WRITE, g, HEAP, job_length(&made));
+        memcpy(triples, made.triples, 2 * count);
+        if (count + first > sizeof triples / 2) continue;
+        memmove(triples + first, triples, 2 * count);
+        g.triples = lend_copy(TRIPLES, HIGH, triples, 2 * (count + first)), g.triple_count = count + first;
+        attempt_with("a record twice", WRITE, g, HEAP, job_length(&made) + 2 * first);
+    }
+    /* One record more than there may be: with one wrong number anywhere, and cut anywhere. */
+    for (uint64_t n = 26; n <= 32; n++) {
+        make_job(&made, n, 3, 30, 0, 0);
+        arguments g = ordinary(&made);
+        uint16_t triples[8 * RECORD];
+        add_triples(&made, 33 - n, 2);
+        memcpy(triples, made.triples, sizeof triples);
+        for (size_t at = 0; at < made.triple_count; at++) {
+            triples[at] += 16;
+            g.triples = lend_copy(TRIPLES, LOW, triples, 2 * made.triple_count), g.triple_count = made.triple_count;
+            attempt_with("one record more", WRITE, g, HEAP, KB_FILE);
+            triples[at] -= 16;
+            g.triples = lend_copy(TRIPLES, HIGH, triples, 2 * at), g.triple_count = at;
+            attempt_with("one record more, cut", WRITE, g, HEAP, KB_FILE);
+        }
+        g.triples = lend_copy(TRIPLES, HIGH, triples, 2 * made.triple_count), g.triple_count = made.triple_count;
+        attempt_with("one record more", WRITE, g, HEAP, KB_FILE);
+    }
+}
+
+/* A file with one table over three choices too many, that is refused with 27 where its body is whole and with 1 where it is not; and a file
+   whose first such table has a wrong count: 26. */
+static void refused_files(void) {
+    for (uint64_t n = 29; n <= 32; n++)
+        for (int fault = 0; fault < 2; fault++) {
+            make_job(&made, n, 3, 30, 3, 0);
+            made.given = n % 2;
+            if (n < 32) add_triples(&made, 32 - n, 3);
+            arguments g = ordinary(&made);
+            size_t at = job_length(&made) - 2;
+            const uint8_t more[] = {'T', 'T', 0, 1, 2, 1, 0, 0, 0, 'E', 'N'};
+            if (fault && n == 32) continue;
+            if (fault) at = records_at(&made), bytes[at + 5] = 0, g.number = 26;
+            else memcpy(bytes + at, more, sizeof more), g.length = at + sizeof more, g.number = 27;
+            g.place = at;
+            /* a count of 0 has a body of 4 bytes: what stands behind it is read as marks, and the record is refused before them */
+            for (int way = 0; way < WAYS; way++) {
+                arguments h = g;
+                h.file = lend_copy(FILES, way, bytes, g.length);
+                for (entry e = 0; e < ENTRIES; e++)
+                    if (e != WRITE) attempt_with("a refused file", e, h, way, ordinary_size(e, &h));
+                for (size_t cut = 1; !fault && cut < 9; cut++) {
+                    h.length = at + cut, h.number = 1, h.place = at;
+                    h.file = lend_copy(FILES, way, bytes, h.length);
+                    for (entry e = 0; e < ENTRIES; e++)
+                        if (e != WRITE) attempt_with("a refused file, cut", e, h, way, ordinary_size(e, &h));
+                }
+            }
+        }
 }
 
 /* Texts of formulas of up to MOST bytes and longer ones, of choices with any number of options, in buffers that are short, exact and
@@ -726,6 +880,7 @@ static void formulas(void) {
     for (uint64_t round = 0; round < 300; round += step(15)) {
         make_job(&made, 1 + drawn() % 9, 0xffff, drawn() % 101, 20 + drawn() % 81, drawn() % 40);
         for (uint64_t k = 0; k < made.n; k++) narrow(&made, k, some_mask());
+        if (drawn() % 2 == 0) add_triples(&made, drawn() % 3, 1 + drawn() % 16);
         g = ordinary(&made);
         const size_t sizes[] = {0, 1, g.text_length / 2, g.text_length - 1, g.text_length, g.text_length + 1, g.text_length + 40};
         for (int k = 0; k < WAYS * 7; k++)
@@ -747,10 +902,11 @@ static void splits(void) {
     for (uint64_t round = 0; round < 300; round += step(15)) {
         uint64_t n = 1 + drawn() % 32;
         make_job(&made, n, 0x8005, drawn() % 101, (unsigned)(drawn() % (1 + 200 / n)), drawn() % 60);
+        if (drawn() % 2 == 0) add_triples(&made, drawn() % (33 - n), 1 + drawn() % 16);
         made.given = drawn() % 2, made.rules = drawn() % 128;
         uint32_t groups[32];
-        uint64_t count = groups_of(&made, groups);
         arguments g = ordinary(&made);
+        uint64_t count = groups_of(g.whole, groups);
         attempt_with("groups", GROUPS, g, HEAP, 0);
         for (g.group = 0; g.group < count + 2; g.group++) {
             size_t length = asked_length(&g);
@@ -764,6 +920,7 @@ static void splits(void) {
 static void sizes(void) {
     for (int way = 0; way < WAYS; way++) {
         make_job(&made, 3, 0x8005, 30, 100, 20);
+        add_triples(&made, (uint64_t)way % 2, 9);
         arguments g = ordinary(&made);
         g.position = (kb_position){1, 1, {2}};
         for (size_t size = 0; size <= job_length(&made) + 40; size++) attempt_with("a buffer", WRITE, g, way, size);
@@ -783,11 +940,11 @@ static void sizes(void) {
         }
         for (size_t masks = 0; masks <= 40; masks++)
             for (entry e = ARC; e <= INTERCHANGEABLE; e++) attempt_with("a list", e, g, way, 2 * masks);
-        for (unsigned at = 0; at < 3; at++)
+        for (unsigned at = 0; at < g.whole->n; at++)
             for (unsigned mask = 0; mask < 65536; mask += mask < 40 ? 1 : (unsigned)step(40) * 257) {
                 arguments h = g;
                 h.list[at] = (uint16_t)mask;
-                for (entry e = ARC; e <= INTERCHANGEABLE; e++) attempt_with("a mask of a list", e, h, way, 6);
+                for (entry e = ARC; e <= INTERCHANGEABLE; e++) attempt_with("a mask of a list", e, h, way, 2 * h.whole->n);
             }
     }
 }
@@ -895,7 +1052,8 @@ static void crowd(void) {
     static caller callers[64];
     pthread_t ids[64];
     do {
-        make_job(&made, 6, 0x8005, 30, 60, 20);
+        make_job(&made, 5, 0x8005, 30, 60, 20);
+        add_triples(&made, 1, 3);
         for (int v = 0; v < VARIANTS; v++) {
             variants[v] = ordinary(&made);
             some_numbers(&variants[v], (uint64_t)v);
@@ -934,7 +1092,8 @@ static void small_stack(void) {
     uint8_t *stack = between_pages(KB_FORMULA_STACK + CALLER);
     for (unsigned round = 0; round <= LAST; round++) {
         if (round == LAST) make_job(&made, 32, 0xffff, 0, 0, 0);
-        else make_job(&made, 32, 3, round % 2 ? 0 : 3, round % 3 ? 5 : 100, round * 2);
+        else make_job(&made, round % 4 == 3 ? 20 : 32, 3, round % 2 ? 0 : 3, round % 3 ? 5 : 100, round * 2);
+        add_triples(&made, round == LAST ? 0 : 32 - made.n, 8);
         for (int v = 0; v < VARIANTS; v++) {
             static const uint64_t sets[VARIANTS] = {127, 3, 99, 63};
             variants[v] = ordinary(&made);
@@ -968,6 +1127,8 @@ int main(int count, char **words) {
     positions();
     depths();
     wrong_lists();
+    wrong_triples();
+    refused_files();
     formulas();
     splits();
     sizes();

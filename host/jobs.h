@@ -10,18 +10,33 @@
 #include <string.h>
 #include <sys/mman.h>
 
-enum { PAGE = 4096, TABLE = 18 };
+enum { PAGE = 4096, TABLE = 18, RECORD = 4 + 3 * 16 };
 
 _Static_assert(KB_FILE == 7 + 3 + 4 * 32 + 36 * 496 && KB_ROOM == 128 * 33, "the sizes for 32 choices with every pair tied");
 
-/* The numbers of a file; a table is i, j and its 16 rows. */
+/* The numbers of a file; a table is i, j and its 16 rows. The tables over three choices stand one behind another, as kb_write is handed
+   them: i, j, k, a count and that many triples of options, `triple_count` numbers in all. */
 typedef struct {
     uint64_t n, m, given, rules, universal;
     uint16_t domains[32];
     uint16_t tables[496 * TABLE];
+    size_t triple_count;
+    uint16_t triples[32 * RECORD];
 } job;
 
-static size_t job_length(const job *j) { return 7 + 4 * j->n + 36 * j->m + (j->given ? 3 : 0); }
+/* Goes through the tables over three choices. */
+#define EACH_RECORD(r, j) (const uint16_t *r = (j)->triples; r < (j)->triples + (j)->triple_count; r += 4 + 3 * r[3])
+
+static uint64_t record_count(const job *j) {
+    uint64_t count = 0;
+    for EACH_RECORD(r, j) count++;
+    return count;
+}
+
+/* Where the first table over three choices stands. */
+static size_t records_at(const job *j) { return 5 + 4 * j->n + 36 * j->m + (j->given ? 3 : 0); }
+
+static size_t job_length(const job *j) { return records_at(j) + 2 * record_count(j) + j->triple_count + 2; }
 
 /* Writes the file of a job, job_length bytes. */
 static void job_bytes(const job *j, uint8_t *to) {
@@ -33,6 +48,10 @@ static void job_bytes(const job *j, uint8_t *to) {
     for (const uint16_t *t = j->tables; t < j->tables + TABLE * j->m; t += TABLE) {
         PUT('C'), PUT('T'), PUT(t[0]), PUT(t[1]);
         for (int a = 0; a < 16; a++) PUT(t[2 + a] % 256), PUT(t[2 + a] / 256);
+    }
+    for EACH_RECORD(r, j) {
+        PUT('T'), PUT('T');
+        for (int b = 0; b < 4 + 3 * r[3]; b++) PUT(r[b]);
     }
     PUT('E'), PUT('N');
 #undef PUT
@@ -66,6 +85,46 @@ static void make_job(job *j, uint64_t n, uint16_t options, unsigned universal, u
                     if ((options >> a & options >> b & 1) && ((a == smallest && b == smallest) || drawn() % 100 >= apart))
                         t[2 + a] |= (uint16_t)(1u << b);
         }
+}
+
+/* How many options a mask has. */
+static unsigned options_of(uint16_t mask) {
+    unsigned count = 0;
+    for (; mask != 0; mask &= (uint16_t)(mask - 1)) count++;
+    return count;
+}
+
+/* Whether the next of `left` is one of the `wanted` to take from them. */
+static int take(uint64_t *left, uint64_t *wanted) {
+    int taken = drawn() % (*left)-- < *wanted;
+    *wanted -= (unsigned)taken;
+    return taken;
+}
+
+/* Puts this many tables over three choices into a job that has none, or all there are, each of at most `most` triples, 16 at most. The
+   smallest options go together. */
+static void add_triples(job *j, uint64_t count, uint64_t most) {
+    uint64_t n = j->n, left = n < 3 ? 0 : n * (n - 1) * (n - 2) / 6;
+    if (count > left) count = left;
+    for (unsigned a = 0; a < n; a++)
+        for (unsigned b = a + 1; b < n; b++)
+            for (unsigned c = b + 1; c < n; c++) {
+                if (!take(&left, &count)) continue;
+                const uint16_t masks[3] = {j->domains[a], j->domains[b], j->domains[c]};
+                uint64_t all = options_of(masks[0]) * options_of(masks[1]) * options_of(masks[2]), wanted = 1 + drawn() % most;
+                if (wanted > all) wanted = all;
+                uint16_t *r = j->triples + j->triple_count;
+                r[0] = (uint16_t)a, r[1] = (uint16_t)b, r[2] = (uint16_t)c, r[3] = 0;
+                for (unsigned o = 0; o < 4096; o++) {
+                    const unsigned triple[3] = {o / 256, o / 16 % 16, o % 16};
+                    if (!(masks[0] >> triple[0] & masks[1] >> triple[1] & masks[2] >> triple[2] & 1)) continue;
+                    if (r[3] == 0) all--, wanted--;
+                    else if (!take(&all, &wanted)) continue;
+                    for (int k = 0; k < 3; k++) r[4 + 3 * r[3] + k] = (uint16_t)triple[k];
+                    r[3]++;
+                }
+                j->triple_count += 4 + 3u * r[3];
+            }
 }
 
 /* Readable and writable memory of this size, whole pages, with an unreadable page below and one above. */

@@ -1,6 +1,7 @@
 /* The game and the first five rules on the numbers of a job, each as document 01 words it, for small jobs, the text of the job's formula,
-   as card 1 of document 02 words it, its groups, as card 4 does, what rule 4 names, as card 5 does, and the position that calls reach,
-   as card 6 does: a plain model beside which the entries are tried. It shares nothing with the library. */
+   as card 1 of document 02 words it, its groups, as card 4 does, what rule 4 names, as card 5 does, the position that calls reach, as
+   card 6 does, and tables over three choices, as card 7 does: a plain model beside which the entries are tried. It shares nothing with
+   the library. */
 #ifndef MODEL_H
 #define MODEL_H
 
@@ -38,11 +39,24 @@ static int fits(const job *j, const kb_position *p) {
     return 1;
 }
 
+/* Whether the last of so many plays keeps to every table, of two choices or of three, that has no later choice. */
+static int keeps(const job *j, const kb_position *p, uint64_t plays) {
+    const uint8_t *v = p->values;
+    if (plays == 0) return 1;
+    for (uint64_t i = 0; i < plays - 1; i++)
+        if (!goes(j, i, v[i], plays - 1, v[plays - 1])) return 0;
+    for EACH_RECORD(r, j) {
+        int good = r[2] != plays - 1;
+        for (const uint16_t *t = r + 4; t < r + 4 + 3 * r[3]; t += 3) good |= t[0] == v[r[0]] && t[1] == v[r[1]] && t[2] == v[r[2]];
+        if (!good) return 0;
+    }
+    return 1;
+}
+
 /* Whether the game is won: every play by itself, to the last. */
 static int won(const job *j, kb_position p) {
     uint64_t k = p.plays;
-    for (uint64_t i = 0; k > 0 && i < k - 1; i++)
-        if (!goes(j, i, p.values[i], k - 1, p.values[k - 1])) return 0;
+    if (!keeps(j, &p, k)) return 0;
     if (k == j->n) return 1;
     p.plays++;
     for (unsigned a = 0; a < 16; a++) {
@@ -55,9 +69,8 @@ static int won(const job *j, kb_position p) {
 
 /* A position's verdict; `won` itself looks at the last play alone. */
 static int verdict(const job *j, kb_position p) {
-    for (uint64_t k = 0; k + 1 < p.plays; k++)
-        for (uint64_t i = 0; i < k; i++)
-            if (!goes(j, i, p.values[i], k, p.values[k])) return 0;
+    for (uint64_t plays = 1; plays < p.plays; plays++)
+        if (!keeps(j, &p, plays)) return 0;
     return won(j, p);
 }
 
@@ -180,6 +193,32 @@ static kb_position standing(const job *j, const uint8_t *calls, size_t count) {
             if (calls[c] - 192u <= p.depth) p.depth = calls[c] - 192u;
         } else if (p.plays < j->n && has(j->domains[p.plays], calls[c])) p.values[p.plays++] = calls[c];
     return p;
+}
+
+/* ---- the ordinary job */
+
+/* Puts a table with no rows yet behind all that are below it by i and k, and before the others. */
+static uint16_t *put_table(job *j, uint16_t i, uint16_t k) {
+    uint16_t *t = j->tables + TABLE * j->m++;
+    for (; t > j->tables && 32 * t[-TABLE] + t[1 - TABLE] > 32 * i + k; t -= TABLE) memcpy(t, t - TABLE, 2 * TABLE);
+    memset(t, 0, 2 * TABLE);
+    t[0] = i, t[1] = k;
+    return t;
+}
+
+/* The job without tables over three choices: for each of them a choice of the shift's behind all others, whose options are the places of
+   its triples, and a table between it and each of the three. */
+static void ordinary_job(const job *j, job *to) {
+    *to = *j;
+    to->triple_count = 0;
+    for EACH_RECORD(r, j) {
+        uint64_t hidden = to->n++;
+        to->domains[hidden] = (uint16_t)((1u << r[3]) - 1);
+        for (int k = 0; k < 3; k++) {
+            uint16_t *t = put_table(to, r[k], (uint16_t)hidden);
+            for (unsigned g = 0; g < r[3]; g++) t[2 + r[4 + 3 * g + (unsigned)k]] |= (uint16_t)(1u << g);
+        }
+    }
 }
 
 /* ---- the job's formula */

@@ -22,10 +22,10 @@
 #include <string.h>
 #include <unistd.h>
 
-enum { LINE = 100 };
+enum { LINE = 100, DECIDING = 18763 };
 
-/* Room for one byte more than the longest accepted file has: a longer one is refused whatever follows. */
-static uint8_t file[KB_FILE + 1];
+/* Room for the bytes that decide on any input, its refusal too (KB_FILE in the header): what follows changes nothing. */
+static uint8_t file[DECIDING];
 static size_t length;
 static kb_reading reading;
 static kb_session session;
@@ -44,8 +44,19 @@ static void show_options(uint64_t mask) {
     printf("\n");
 }
 
+/* A table over three choices: which they are, and the triples of options that are good together. */
+static void show_triples(uint64_t number) {
+    kb_found_triples found = kb_look_up_triples(file, length, number);
+    const uint8_t *body = file + found.body;
+    printf("triples of %d %d %d:", body[0], body[1], body[2]);
+    for (uint64_t at = 4; at < found.length; at += 3)
+        printf("%s %d %d %d", at == 4 ? "" : ",", body[at], body[at + 1], body[at + 2]);
+    printf("\n");
+}
+
 static void show_file(void) {
     printf("choices %" PRIu64 "\ntables %" PRIu64 "\n", reading.n, reading.m);
+    for (uint64_t q = 0; q < reading.t; q++) show_triples(q);
     printf("rules %" PRIu64 "%s\n", reading.rules, reading.given ? "" : " by default");
     for (uint64_t k = 0; k < reading.n; k++) {
         printf("choice %" PRIu64 " %s", k, side(k));

@@ -1,10 +1,11 @@
-/* Measures the stack that the entries need, on files of 32 choices with every turn of the search entered, and that of kb_judge_formula on
-   prefixes of up to 512 booleans: each call runs on a stack of its own that is painted before, and the lowest byte that changed tells.
-   Prints one line, whether KB_STACK and KB_FORMULA_STACK hold; with an argument also the measure of each entry. */
+/* Measures the stack that the entries need, on files of 32 choices, some of which stand for tables over three choices, with every turn of the
+   search entered, and that of kb_judge_formula on prefixes of up to 512 booleans: each call runs on a stack of its own that is painted
+   before, and the lowest byte that changed tells. Prints one line, whether KB_STACK and KB_FORMULA_STACK hold; with an argument also the
+   measure of each entry. */
 #define _GNU_SOURCE
 #include "jobs.h"
 
-enum { SIZE = 2 * KB_STACK, FORMULA_SIZE = 2 * KB_FORMULA_STACK, PAINT = 0xa5 };
+enum { SIZE = 2 * KB_STACK, FORMULA_SIZE = 2 * KB_FORMULA_STACK, PAINT = 0xa5, THREES = 12 };
 
 static job made;
 static uint8_t file[KB_FILE], buffer[KB_FILE], formula[KB_FORMULA];
@@ -12,16 +13,17 @@ static size_t length;
 static uint64_t rules;
 static const kb_position fresh, played = {3, 1, {0}};
 static kb_session session;
-static uint16_t list[32], room[KB_ROOM];
+static uint16_t masks[32], list[32], room[KB_ROOM];
 static const uint8_t calls[] = {0, 254, 1, 255, 0, 9, 192, 255, 255};
 static volatile uint64_t sink;
 
-/* Every entry on a file of 32 choices, and one field of its reply; kb_judge_formula by itself. */
+/* Every entry on a file of 32 choices, those of its tables over three counted, and one field of its reply; kb_judge_formula by itself. */
 #define ENTRIES(X)                                                                                                                        \
     X(kb_read, kb_read(file, length).n)                                                                                                   \
-    X(kb_look_up, kb_look_up(file, length, 30, 31).found)                                                                                 \
-    X(kb_write, kb_write(buffer, KB_FILE, made.n, made.m, made.given, made.rules, made.universal, made.domains, 32, made.tables,          \
-                         TABLE * made.m).length)                                                                                          \
+    X(kb_look_up, kb_look_up(file, length, made.n - 2, made.n - 1).found)                                                                 \
+    X(kb_look_up_triples, kb_look_up_triples(file, length, THREES - 1).found)                                                             \
+    X(kb_write, kb_write(buffer, KB_FILE, made.n, made.m, made.given, made.rules, made.universal, made.domains, made.n, made.tables,      \
+                         TABLE * made.m, made.triples, made.triple_count).length)                                                         \
     X(kb_report, kb_report(file, length, buffer, KB_TEXT).length)                                                                         \
     X(kb_play, kb_play(file, length, fresh, 0).answer.kind)                                                                               \
     X(kb_take_back, kb_take_back(file, length, played).answer.kind)                                                                       \
@@ -31,7 +33,7 @@ static volatile uint64_t sink;
     X(kb_session_lock, kb_session_lock(file, length, &session).kind)                                                                      \
     X(kb_session_unlock, kb_session_unlock(file, length, &session, 0).kind)                                                               \
     X(kb_session_take_back, kb_session_take_back(file, length, &session).kind)                                                            \
-    X(kb_open, kb_open(file, length, played).masks[31])                                                                                   \
+    X(kb_open, kb_open(file, length, played).masks[19])                                                                                   \
     X(kb_judge, kb_judge(file, length, 0, 0, 0, 0, 0, 0, rules).won)                                                                      \
     X(kb_mark, kb_mark(file, length, 0, 0, 0, 0, 0, 0, rules).winning)                                                                    \
     X(kb_judge_in, kb_judge_in(file, length, fresh, rules, room, KB_ROOM).won)                                                            \
@@ -73,9 +75,13 @@ static size_t used(uint8_t *stack, size_t size, void *(*call)(void *)) {
     return size - lowest;
 }
 
+/* The file of the job, and the masks of its ordinary job's choices. */
 static void write_file(void) {
     length = job_length(&made);
     job_bytes(&made, file);
+    memcpy(masks, made.domains, sizeof masks);
+    uint16_t *hidden = masks + made.n;
+    for EACH_RECORD(r, &made) *hidden++ = (uint16_t)((1u << r[3]) - 1);
 }
 
 /* What kb_judge_formula needs, on jobs that it judges soon: 512 booleans and no table; the same with a day's choice in front; choices of
@@ -101,12 +107,15 @@ int main(int count, char **words) {
     int within = 1;
     (void)words;
     for (unsigned round = 0; round < 60; round++) {
-        make_job(&made, 32, 3, round % 3 == 0 ? 0 : round % 5, round % 2 ? 5 : 100, round % 7 * 3);
+        int threes = round % 4 == 3;
+        make_job(&made, threes ? 32 - THREES : 32, 3, round % 3 == 0 ? 0 : round % 5, round % 2 ? 5 : 100, round % 7 * 3);
+        if (threes) add_triples(&made, THREES, 16);
         write_file();
+        if (kb_read(file, length).t != (threes ? THREES : 0)) fprintf(stderr, "stack: a file is not as made\n"), exit(2);
         for (int s = 0; s < 6; s++) {
             rules = sets[s];
             for (int e = 0; e < COUNT; e++) {
-                memcpy(list, made.domains, sizeof list);
+                memcpy(list, masks, sizeof list);
                 size_t own = used(stack, SIZE, entries[e].call) - thread;
                 if (own > entries[e].most) entries[e].most = own;
             }

@@ -14,7 +14,7 @@
 
        kind      KB_FINISHED     the reply's own fields hold
                  KB_REFUSED      refused; `number` says why
-                 KB_REFUSED_AT   the file is refused; `number` says why (1 to 9) and `place` at which byte
+                 KB_REFUSED_AT   the file is refused; `number` says why (1 to 9, 26, 27) and `place` at which byte
        number    0 in a finished reply
        place     0 but for KB_REFUSED_AT
 
@@ -28,15 +28,25 @@
        4 Domain   8 Rules   12 Room      23 Misfit   a position that the file does not allow
                             13 List      24 Locked   a take-back when all plays are held
                                          25 Depth    an unlock to more plays than are held
+      26 Triple   of a table over three choices: a wrong index, count, option or order
+      27 Many     choices and tables over three choices, more than 32 together
 
    11 Choice is also the number of a group that the file does not have (kb_group).
+
+   A table over three choices (a record TT of the file) holds the triples of options that are good together. Verdict and marks are those of
+   the game in which these tables are looked at as well. kb_search, the rules alone, kb_formula, kb_judge_formula, kb_groups and kb_group
+   work on the ordinary job, in which no table is over three choices: it has the file's n choices, behind them one of the shift's for each of
+   the t tables over three choices, whose options are the places of its triples, counted from 0, and beside the file's tables of two choices
+   one to each of the three, which ties a place to the option that the triple there has. These are n + t choices, at most 32; without tables
+   over three choices it is the job of the file itself. Plays, positions, marks and open options speak of the file's own n choices
+   everywhere; open options and kb_look_up go by its tables of two choices alone.
 
    No function keeps anything from call to call or takes memory from the heap, so calls may run side by side on several threads, as
    long as none writes what another is lent.
 
    Stack: give a call KB_STACK bytes below its caller's frame, whatever the file, but kb_judge_formula KB_FORMULA_STACK: 992 KB of its
    frame are an index of the clauses, and it calls itself once for each boolean, 512 at most. The measured need is less: the proof
-   knows of no stack; host/stack.c measures it (122,884 bytes at the deepest, kb_group; 116,024 for kb_report with 32 choices played
+   knows of no stack; host/stack.c measures it (123,012 bytes at the deepest, kb_group; 116,088 for kb_report with 32 choices played
    one below another; about 1.1 MB for kb_judge_formula). */
 #ifndef KICKBALLBOX_H
 #define KICKBALLBOX_H
@@ -50,7 +60,7 @@ extern "C" {
 
 /* Raised by every change of a function or a struct below. A program asks `kb_interface() == KB_INTERFACE` once, before any other
    call: else header and library are not of one make. */
-#define KB_INTERFACE 6
+#define KB_INTERFACE 7
 
 #define KB_FINISHED 0
 #define KB_REFUSED 1
@@ -60,7 +70,9 @@ extern "C" {
 #define KB_FORMULA_STACK 1572864
 
 /* Bytes of buffer that suffice for every text of kb_report, words of room that suffice for every file, and the longest accepted
-   file in bytes. */
+   file in bytes. Of a longer input the first 18,763 bytes decide, and who wants a refused file's number and place gives so many of them:
+   behind the longest tables a record TT may stand at 17,992, and only with its whole body, 4 bytes and up to 3·255, behind the 2 of its
+   mark, is it refused with 27 and not with 1. */
 #define KB_TEXT 1024
 #define KB_ROOM 4224
 #define KB_FILE 17994
@@ -87,7 +99,8 @@ typedef struct {
     uint64_t number;
     uint64_t place;
     uint64_t n;         /* choices */
-    uint64_t m;         /* tables */
+    uint64_t m;         /* tables of two choices */
+    uint64_t t;         /* tables over three choices */
     uint64_t universal;
     uint64_t given;     /* 1 where the file names a rule set, else 0 */
     uint64_t rules;     /* the rule set to judge by: the file's, else USUAL */
@@ -102,6 +115,17 @@ typedef struct {
     uint64_t found;     /* 1 or 0 */
     uint64_t rows;
 } kb_found;
+
+/* Whether there is a table over three choices of this number, where its body begins in the file, and how many bytes that has: i, j, k and
+   the count, a byte each, then for each triple an option of i, of j and of k, a byte each. */
+typedef struct {
+    uint64_t kind;
+    uint64_t number;
+    uint64_t place;
+    uint64_t found;     /* 1 or 0 */
+    uint64_t body;
+    uint64_t length;
+} kb_found_triples;
 
 /* How many bytes were written. */
 typedef struct {
@@ -207,7 +231,8 @@ typedef struct {
 } kb_named_values;
 
 /* What a search finds: the verdict; whether the rules of its first turn found a loss, and the list that they reached; the conflict
-   set of a lost search, bit k for choice k; the leaf of a won one, an option for each choice. From n on list and leaf are zero. */
+   set of a lost search, bit k for choice k; the leaf of a won one, an option for each choice. The choices are those of the ordinary job:
+   from n + t on list and leaf are zero. */
 typedef struct {
     uint64_t kind;
     uint64_t number;
@@ -228,7 +253,8 @@ typedef struct {
     uint64_t length;
 } kb_formula_judgement;
 
-/* How many groups the choices form, and the group of each choice. From n on it is zero. */
+/* How many groups the choices of the ordinary job form, and the group of each. From n + t on it is zero. At most n groups: the choice of
+   a table over three choices is in the group of its three. */
 typedef struct {
     uint64_t kind;
     uint64_t number;
@@ -242,18 +268,28 @@ uint64_t kb_interface(void);
 
 /* ---- files */
 
-/* Reads a file. Refuses it with 1 to 9 and the place. */
+/* Reads a file. Refuses it with 1 to 9, 26 or 27 and the place. */
 kb_reading kb_read(const uint8_t *file, size_t length);
 
 /* Looks up the table of the choices i and j. Refuses the file; then 11 unless i < j < n. */
 kb_found kb_look_up(const uint8_t *file, size_t length, uint64_t i, uint64_t j);
 
-/* Writes the file of these numbers at the front of the buffer: n choices, m tables, the rule set `rules` unless `given` is 0, bit k
-   of `universal` for a choice k of the day's, n domains, and 18 numbers a table: i, j, its 16 rows. Replies the length; bytes behind
-   it keep their contents. Refuses with 3 (n or m), 13 (not n domains, or not 18·m numbers), 8 (a rule set above 127), 11 (a bit of
-   `universal` at n or above), 4 (a domain without an option), 5, 6, 7 (table by table), 12 (the buffer is shorter than the file). */
+/* Looks up the table over three choices of this number, from 0 in the file's order. Refuses the file alone; of a number of t or above,
+   however large, `found` is 0. */
+kb_found_triples kb_look_up_triples(const uint8_t *file, size_t length, uint64_t number);
+
+/* Writes the file of these numbers at the front of the buffer: n choices, m tables of two choices, the rule set `rules` unless `given` is
+   0, bit k of `universal` for a choice k of the day's, n domains, 18 numbers a table of two choices (i, j, its 16 rows), and the tables
+   over three choices one behind another, as many as the list holds: i, j, k, a count, and for each triple counted an option of i, of j
+   and of k. i < j < k < n, the count is 1 to 16, each option is in its choice's mask, triples ascend strictly, and so do these tables by
+   (i, j, k). Replies the length; bytes behind it keep their contents. Refuses with 3 (n or m), 13 (not n domains, not 18·m numbers, or
+   triples that stop within a table: fewer than four numbers are left, or fewer than the count asks for), 8 (a rule set above 127), 11 (a
+   bit of `universal` at n or above), 4 (a domain without an option), 5, 6, 7 (table by table), then for one table over three choices
+   after the other 27 (n and these tables so far are more than 32) and 26 (else one of the above fails), 12 (the buffer is shorter than
+   the file). */
 kb_written kb_write(uint8_t *buffer, size_t size, uint64_t n, uint64_t m, uint64_t given, uint64_t rules, uint64_t universal,
-                    const uint16_t *domains, size_t domain_count, const uint16_t *tables, size_t table_count);
+                    const uint16_t *domains, size_t domain_count, const uint16_t *tables, size_t table_count, const uint16_t *triples,
+                    size_t triple_count);
 
 /* Writes what the judging program prints of these bytes at the front of the buffer, a line `refused 2 at 5` of a refused file.
    Replies the length, at most KB_TEXT; bytes behind it keep their contents. Refuses with 12 (the buffer is shorter than the text). */
@@ -281,7 +317,8 @@ kb_answer kb_session_unlock(const uint8_t *file, size_t length, kb_session *sess
 
 /* The open options of every choice, those still usable: a played one's own option, all of a day's choice, and of a shift's choice
    those that go with every play. Nothing is usable at any unplayed choice if two plays clash, if no option of an unplayed shift's
-   choice goes with every play, or if a play clashes with an option of an unplayed day's choice. Refuses the file; then 23. */
+   choice goes with every play, or if a play clashes with an option of an unplayed day's choice. Tables over three choices count for
+   nothing here. Refuses the file; then 23. */
 kb_opened kb_open(const uint8_t *file, size_t length, kb_position position);
 
 /* ---- judging */
@@ -295,12 +332,12 @@ kb_judgement kb_judge(const uint8_t *file, size_t length, uint64_t plays, uint64
 kb_marks kb_mark(const uint8_t *file, size_t length, uint64_t plays, uint64_t depth, uint64_t places0, uint64_t places1,
                  uint64_t places2, uint64_t places3, uint64_t rules);
 
-/* The same of a position by value, in lent room, 16-bit numbers of any contents: the 128·(n + 1) words that a call needs are zero
+/* The same of a position by value, in lent room, 16-bit numbers of any contents: the 128·(n + t + 1) words that a call needs are zero
    afterwards, those behind them as they were. Refuse as above, and last with 12 (fewer words). */
 kb_judgement kb_judge_in(const uint8_t *file, size_t length, kb_position position, uint64_t rules, uint16_t *room, size_t words);
 kb_marks kb_mark_in(const uint8_t *file, size_t length, kb_position position, uint64_t rules, uint16_t *room, size_t words);
 
-/* What a search from the position finds under this rule set. Refuses as kb_judge does. */
+/* What a search from the position finds under this rule set, in the ordinary job. Refuses as kb_judge does. */
 kb_searched kb_search(const uint8_t *file, size_t length, kb_position position, uint64_t rules);
 
 /* Runs calls from the fresh position, each a byte: 255 a take-back, 254 a lock, 192 to 253 an unlock to that number less 192, any other
@@ -310,8 +347,10 @@ kb_replayed kb_replay(const uint8_t *file, size_t length, const uint8_t *calls, 
 
 /* ---- rules alone
 
-   On a lent list of n masks, none zero, each within the file's. All refuse the file; then 13 (the list is none such); those with a
-   choice then 11 (no choice of the file). */
+   On a lent list of a mask for each of the n + t choices of the ordinary job, none zero, each within that choice's: first those of the
+   file's n choices, then for each table over three choices, in the file's order, places of its triples; all of them are (1 << count) - 1,
+   where count is byte 3 of the body that kb_look_up_triples finds. `masks` is n + t. All refuse the file; then 13 (the list is none such);
+   those with a choice then 11 (n + t or above). The choices named are those of the ordinary job too. */
 
 /* Arc (rule 1): the list is left without dead options, also in a loss. */
 kb_ruled kb_arc(const uint8_t *file, size_t length, uint16_t *list, size_t masks);
@@ -334,8 +373,9 @@ kb_values kb_interchangeable(const uint8_t *file, size_t length, const uint16_t 
 
 /* ---- formulas
 
-   The job as a quantified boolean formula in QDIMACS, the text that QBF solvers read: the line `p cnf` with the numbers of booleans and
-   clauses, then the prefix, then the clauses. Single spaces part the numbers, a line feed ends each line, there are no comments.
+   The ordinary job as a quantified boolean formula in QDIMACS, the text that QBF solvers read: the line `p cnf` with the numbers of
+   booleans and clauses, then the prefix, then the clauses. Single spaces part the numbers, a line feed ends each line, there are no
+   comments.
 
        booleans  one for each option of a shift's choice, existential; k for a day's choice of d options, universal, k the least number
                  of at least 1 with 2^k at least d: code c, low bit first, stands for the option at place c mod d, ascending. They are
@@ -343,7 +383,7 @@ kb_values kb_interchangeable(const uint8_t *file, size_t length, const uint16_t 
                  closes the prefix
        prefix    a line `e` or `a` for each run of choices of one side
        clauses   of each shift's choice, that one of its options at least holds; of each clash of a table, one for each pair of
-                 booleans or codes that stand for it; that the closing boolean holds. Tables stand in the file's order; clashes
+                 booleans or codes that stand for it; that the closing boolean holds. Tables ascend by their two choices; clashes
                  ascend, and codes within a clash, in both the lower choice's slowest; literals ascend by their boolean
 
    Both refuse the file; then 12 (the buffer is shorter than the text). The file's rule set counts for nothing here. */
@@ -357,16 +397,17 @@ kb_formula_judgement kb_judge_formula(const uint8_t *file, size_t length, uint8_
 
 /* ---- groups
 
-   Two choices hang together if a chain of tables joins them; a table joins its two choices whatever it permits. Each choice lies in one
-   group and no table joins two groups, so the job is won exactly if the job of each group is. Groups are numbered from 0 by their smallest
-   choice. */
+   Two choices of the ordinary job hang together if a chain of tables joins them; a table joins its two choices whatever it permits, and one
+   over three choices its three, in whose group its own choice is. Each choice lies in one group and no table joins two groups, so the job is
+   won exactly if the job of each group is. Groups are numbered from 0 by their smallest choice. */
 
 /* Lists the groups. Refuses the file. */
 kb_group_list kb_groups(const uint8_t *file, size_t length);
 
-/* Writes this group as a job file at the front of the buffer: its choices with their masks, renumbered in order, each the shift's or the day's as it
-   was, all its tables, and the file's rule set, if it has one. Replies the length; bytes behind it keep their contents. KB_FILE bytes suffice
-   for every group. Refuses the file; then 11 (no such group); 12 (the buffer is shorter than the group's file). */
+/* Writes this group as a job file at the front of the buffer: its choices with their masks, renumbered in order, each the shift's or the
+   day's as it was, all its tables, none over three choices, and the file's rule set, if it has one. Replies the length; bytes behind it keep
+   their contents. KB_FILE bytes suffice for every group. Refuses the file; then 11 (no such group); 12 (the buffer is shorter than the
+   group's file). */
 kb_written kb_group(const uint8_t *file, size_t length, uint64_t group, uint8_t *buffer, size_t size);
 
 #ifdef __cplusplus

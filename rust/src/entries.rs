@@ -17,6 +17,7 @@ pub struct Reading {
     pub answer: Answer,
     pub n: u64,
     pub m: u64,
+    pub t: u64,
     pub universal: u64,
     pub given: u64,
     pub rules: u64,
@@ -29,6 +30,15 @@ pub struct Found {
     pub answer: Answer,
     pub found: u64,
     pub rows: u64,
+}
+
+#[repr(C)]
+#[derive(Clone, Copy, Debug, Default, PartialEq, Eq)]
+pub struct FoundTriples {
+    pub answer: Answer,
+    pub found: u64,
+    pub body: u64,
+    pub length: u64,
 }
 
 #[repr(C)]
@@ -149,9 +159,11 @@ extern "C" {
 
     pub fn kb_read(file: *const u8, length: usize) -> Reading;
     pub fn kb_look_up(file: *const u8, length: usize, i: u64, j: u64) -> Found;
+    pub fn kb_look_up_triples(file: *const u8, length: usize, number: u64) -> FoundTriples;
     pub fn kb_write(
         buffer: *mut u8, size: usize, n: u64, m: u64, given: u64, rules: u64, universal: u64,
-        domains: *const u16, domain_count: usize, constraints: *const u16, constraint_count: usize,
+        domains: *const u16, domain_count: usize, constraints: *const u16, constraint_count: usize, triples: *const u16,
+        triple_count: usize,
     ) -> Written;
     pub fn kb_report(file: *const u8, length: usize, buffer: *mut u8, size: usize) -> Written;
 
@@ -209,7 +221,7 @@ macro_rules! replies {
         }
     )*};
 }
-replies!(Reading Found Written Opened Judgement Marks Ruled Checked Looked Values NamedValues Searched FormulaJudgement GroupList);
+replies!(Reading Found FoundTriples Written Opened Judgement Marks Ruled Checked Looked Values NamedValues Searched FormulaJudgement GroupList);
 
 /// The reply, where the call finished. Any kind but 0 is a refusal, and 2 one with a place.
 pub fn finished<T: Reply>(reply: T) -> Result<T, Refusal> {

@@ -38,6 +38,7 @@ impl<'a> File<'a> {
         Ok(Reading {
             n: r.n as usize,
             m: r.m as usize,
+            t: r.t as usize,
             rules: flag(r.given).then_some(rules_to_use),
             rules_to_use,
             universal: variables(r.universal),
@@ -59,6 +60,16 @@ impl<'a> File<'a> {
         Ok(self.look_up(i, j)?.map(|place| &self.0[place..place + 32]))
     }
 
+    /// The body of the three-way constraint of this number, counted from 0 in the file's order, as a part of the file, or none where there
+    /// is no such constraint: its variables i, j, k and how many triples of values, a byte each, then three bytes for each triple. Refuses
+    /// the file alone.
+    pub fn triples(self, number: usize) -> Result<Option<&'a [u8]>, Refusal> {
+        let (file, length) = self.lent();
+        // SAFETY: the entry reads the file's bytes.
+        let found = finished(unsafe { entries::kb_look_up_triples(file, length, number as u64) })?;
+        Ok(flag(found.found).then(|| &self.0[found.body as usize..][..found.length as usize]))
+    }
+
     /// Writes what the judging program prints of these bytes at the front of the buffer and replies the length, at most [`TEXT`];
     /// bytes behind it keep their contents. Refuses with `Room` alone, where the buffer is shorter than the text.
     pub fn report(self, buffer: &mut [u8]) -> Result<usize, Refusal> {
@@ -75,8 +86,8 @@ impl<'a> File<'a> {
         Ok(String::from_utf8_lossy(&buffer[..length]).into_owned())
     }
 
-    /// Writes the problem as a quantified boolean formula (QDIMACS) at the front of the buffer and replies the length of that text;
-    /// bytes behind it keep their contents. [`FORMULA`](crate::FORMULA) bytes suffice for every file. Refuses with `Room`, where the
+    /// Writes the [ordinary problem](crate) as a quantified boolean formula (QDIMACS) at the front of the buffer and replies the length
+    /// of that text; bytes behind it keep their contents. [`FORMULA`](crate::FORMULA) bytes suffice for every file. Refuses with `Room`, where the
     /// buffer is shorter than the text.
     pub fn formula(self, buffer: &mut [u8]) -> Result<usize, Refusal> {
         let (file, length) = self.lent();
@@ -149,6 +160,7 @@ impl<'a> File<'a> {
     /// The open values of every variable, those still usable: a played one's own value, all of a universal variable, and of an
     /// existential one those that go with every play. Nothing is usable at any unplayed variable if two plays clash, if no value of
     /// an unplayed existential variable goes with every play, or if a play clashes with a value of an unplayed universal variable.
+    /// Three-way constraints count for nothing here.
     /// Refuses with `Misfit`.
     pub fn open_values(self, position: &Position) -> Result<OpenValues, Refusal> {
         let (file, length) = self.lent();

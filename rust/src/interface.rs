@@ -44,6 +44,6 @@ fn another_interface_is_told() {
     assert_eq!(check_interface(), Ok(()));
     for library in [0, INTERFACE - 1, INTERFACE + 1, 1 << 32 | INTERFACE, u64::MAX] {
         let other = compared(library).unwrap_err();
-        assert_eq!(other.to_string(), format!("the library has the interface {library}, the wrapper is written for 6"));
+        assert_eq!(other.to_string(), format!("the library has the interface {library}, the wrapper is written for 7"));
     }
 }

@@ -22,8 +22,8 @@ impl File<'_> {
         finished(reply).map(entries::Marks::typed)
     }
 
-    /// [`judge`](File::judge) in lent room of any contents: the 128·(n + 1) words that the call needs are zero afterwards, those
-    /// behind them as they were. Refuses last with `Room`, where there are fewer words.
+    /// [`judge`](File::judge) in lent room of any contents: the 128·(n + t + 1) words that the call needs are zero afterwards,
+    /// those behind them as they were. Refuses last with `Room`, where there are fewer words.
     pub fn judge_in(self, position: &Position, rules: RuleSet, room: &mut [u16]) -> Result<bool, Refusal> {
         let (file, length) = self.lent();
         // SAFETY: the entry reads the file's bytes and writes the room, which is borrowed for this call alone.
@@ -39,7 +39,7 @@ impl File<'_> {
         finished(reply).map(entries::Marks::typed)
     }
 
-    /// What a search from the position finds under this rule set. Refuses as [`judge`](File::judge) does.
+    /// What a search from the position finds under this rule set, in the [ordinary problem](crate). Refuses as [`judge`](File::judge) does.
     pub fn search(self, position: &Position, rules: RuleSet) -> Result<Searched, Refusal> {
         let (file, length) = self.lent();
         // SAFETY: the entry reads the file's bytes.

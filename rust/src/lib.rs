@@ -1,6 +1,12 @@
 //! Safe functions over the proved solver's C entries (`include/kickballbox.h`): files of quantified constraint problems read, looked
 //! up, written, played, judged, marked, written as quantified boolean formulas, and split into the groups of variables that hang together.
 //!
+//! A file may have three-way constraints: triples of values that three variables may take together. Verdict and marks are those of the game in
+//! which they are tested as well. What a search finds, the rules alone, formulas and groups are of the *ordinary problem*: the file's n variables,
+//! behind them an existential one for each of the t three-way constraints, whose values are the places of its triples, and constraints of two
+//! variables alone. Without three-way constraints that is the file's own problem. Plays, positions, marks and open values speak of the file's own
+//! n variables, and open values go by its constraints of two variables alone.
+//!
 //! Every function is total: any bytes, any position, any rule set. What is turned away is a [`Refusal`], and a refused call writes
 //! nothing. Every call reads its file first and refuses it by itself, so a [`File`] may be any bytes. Give a call [`STACK`] bytes of
 //! stack, but [`File::judge_formula`] [`FORMULA_STACK`]; the measured need is less.
@@ -67,7 +73,7 @@ pub use rule_set::RuleSet;
 pub use session::Session;
 
 /// The interface that this wrapper is written for: `KB_INTERFACE` of the header.
-pub const INTERFACE: u64 = 6;
+pub const INTERFACE: u64 = 7;
 /// The stack to give a call, in bytes: `KB_STACK` of the header.
 pub const STACK: usize = 131072;
 /// The stack to give [`File::judge_formula`], in bytes: `KB_FORMULA_STACK` of the header.
@@ -76,7 +82,8 @@ pub const FORMULA_STACK: usize = 1572864;
 pub const TEXT: usize = 1024;
 /// Words of room that suffice for every file: `KB_ROOM` of the header.
 pub const ROOM: usize = 4224;
-/// The longest accepted file in bytes: `KB_FILE` of the header.
+/// The longest accepted file in bytes: `KB_FILE` of the header. Of a longer input the first 18,763 bytes decide on number and place of
+/// its refusal.
 pub const FILE: usize = 17994;
 /// Bytes of buffer that suffice for the text of every formula (computed and not proved): `KB_FORMULA` of the header.
 pub const FORMULA: usize = 4131214;

@@ -7,7 +7,7 @@ use crate::{entries, interface::demand_interface, Refusal, RuleSet};
 pub struct Problem<'a> {
     /// The number of variables.
     pub n: usize,
-    /// The number of constraints.
+    /// The number of constraints of two variables.
     pub m: usize,
     /// The rule set that the file names, or none.
     pub rules: Option<RuleSet>,
@@ -17,12 +17,16 @@ pub struct Problem<'a> {
     pub domains: &'a [u16],
     /// 18 numbers a constraint: its variables i and j, and its 16 rows.
     pub constraints: &'a [u16],
+    /// The three-way constraints one behind another, ascending strictly by (i, j, k): i < j < k, how many triples of values (1 to 16),
+    /// and three numbers for each, a value of i, of j and of k, triples ascending strictly.
+    pub triples: &'a [u16],
 }
 
 impl Problem<'_> {
     /// Writes the file at the front of the buffer and replies its length; bytes behind it keep their contents. Refuses with
-    /// `Count` (n or m), `List` (not n domains, or not 18·m numbers), `Rules`, `Choice` (a bit of `universal` at n or above),
-    /// `Domain`, then `Pair`, `Order` and `Stray` constraint by constraint, and `Room` (the buffer is shorter than the file).
+    /// `Count` (n or m), `List` (not n domains, not 18·m numbers, or triples that stop within a constraint), `Rules`, `Choice` (a bit
+    /// of `universal` at n or above), `Domain`, then `Pair`, `Order` and `Stray` constraint by constraint, `Many` and `Triple` likewise,
+    /// and `Room` (the buffer is shorter than the file).
     ///
     /// # Panics
     ///
@@ -30,7 +34,7 @@ impl Problem<'_> {
     pub fn write(&self, buffer: &mut [u8]) -> Result<usize, Refusal> {
         demand_interface();
         let (given, rules) = self.rules.map_or((0, 0), |set| (1, set.number()));
-        // SAFETY: the entry reads the two lists and writes the buffer, each within the length that comes with it.
+        // SAFETY: the entry reads the three lists and writes the buffer, each within the length that comes with it.
         let reply = unsafe {
             entries::kb_write(
                 buffer.as_mut_ptr(),
@@ -44,6 +48,8 @@ impl Problem<'_> {
                 self.domains.len(),
                 self.constraints.as_ptr(),
                 self.constraints.len(),
+                self.triples.as_ptr(),
+                self.triples.len(),
             )
         };
         entries::finished(reply).map(|written| written.length as usize)

@@ -43,12 +43,16 @@ pub enum Reason {
     Locked,
     /// 25: an unlock to more plays than are held.
     Depth,
+    /// 26: of a three-way constraint, a wrong variable, count, value or order.
+    Triple,
+    /// 27: variables and three-way constraints, more than 32 together.
+    Many,
     /// Any other number. The library is proved to reply none; it would be handed on as it came.
     Other(u64),
 }
 
 /// The list once: number, reason, and its condition in plain words.
-const LIST: [(u64, Reason, &str); 19] = [
+const LIST: [(u64, Reason, &str); 21] = [
     (1, Reason::Short, "a mark or a body is not whole"),
     (2, Reason::Mark, "no record may have this mark here"),
     (3, Reason::Count, "a count is outside its range"),
@@ -68,6 +72,8 @@ const LIST: [(u64, Reason, &str); 19] = [
     (23, Reason::Misfit, "the file does not allow the position, or more plays are held than there are"),
     (24, Reason::Locked, "all plays are held"),
     (25, Reason::Depth, "fewer plays are held"),
+    (26, Reason::Triple, "a three-way constraint has a wrong variable, count, value or order"),
+    (27, Reason::Many, "variables and three-way constraints are more than 32"),
 ];
 
 impl Reason {
@@ -133,7 +139,7 @@ mod tests {
     #[test]
     fn names_and_numbers() {
         let numbers: Vec<u64> = LIST.iter().map(|row| row.0).collect();
-        assert_eq!(numbers, (1..=13).chain(20..=25).collect::<Vec<u64>>());
+        assert_eq!(numbers, (1..=13).chain(20..=27).collect::<Vec<u64>>());
         for number in (0..300).chain([1 << 32 | 8, u64::MAX]) {
             assert_eq!(Reason::of(number).number(), number);
             assert_eq!(matches!(Reason::of(number), Reason::Other(_)), !numbers.contains(&number));

@@ -7,8 +7,10 @@ use crate::{Refusal, RuleSet};
 pub struct Reading {
     /// The number of variables, 1 to 32.
     pub n: usize,
-    /// The number of constraints.
+    /// The number of constraints of two variables.
     pub m: usize,
+    /// The number of three-way constraints.
+    pub t: usize,
     /// The file's rule set, if it names one.
     pub rules: Option<RuleSet>,
     /// The rule set to judge by: the file's, else [`RuleSet::USUAL`].
@@ -44,11 +46,11 @@ pub struct Searched {
     pub won: bool,
     /// Whether the rules of the first turn found a loss.
     pub loss: bool,
-    /// The conflict set of a lost search: bit k for variable k. Zero in a won one.
+    /// The conflict set of a lost search: bit k for variable k of the ordinary problem, as in the lists below. Zero in a won one.
     pub conflict: u32,
-    /// The domains that the rules of the first turn reached; zero from n on.
+    /// The domains that the rules of the first turn reached; zero from n + t on.
     pub list: [u16; 32],
-    /// The leaf of a won search, a value for each variable; zero from n on, and in a lost search.
+    /// The leaf of a won search, a value for each variable; zero from n + t on, and in a lost search.
     pub leaf: [u16; 32],
 }
 
@@ -89,12 +91,12 @@ pub struct JudgedFormula {
     pub length: usize,
 }
 
-/// The groups of variables that hang together, numbered from 0 by their smallest variable.
+/// The groups of variables of the ordinary problem that hang together, numbered from 0 by their smallest variable.
 #[derive(Clone, Copy, Debug, PartialEq, Eq)]
 pub struct Groups {
-    /// How many there are, 1 to n.
+    /// How many there are, 1 to n: a three-way constraint's variable is in the group of its three.
     pub count: usize,
-    /// The group of each variable; zero from n on.
+    /// The group of each variable; zero from n + t on.
     pub group: [u8; 32],
 }
 

@@ -1,5 +1,7 @@
-//! The first five rules, each called alone on a lent list of n masks, none zero, each within the file's. All refuse any other list with
-//! `List`; those with a variable then a variable that the file does not have with `Choice`.
+//! The first five rules, each called alone on a lent list of a mask for each of the n + t variables of the ordinary problem, none zero, each
+//! within that variable's domain (that of a three-way constraint's variable has a bit for each of its triples: (1 << count) - 1, `count`
+//! being byte 3 of [`File::triples`]). All refuse any other list with `List`; those with a variable then one that this problem does not have with
+//! `Choice`. Variables named are the ordinary problem's too.
 
 use crate::entries::{self, finished, flag, mask};
 use crate::{File, LosingValue, PureValues, Refusal};

@@ -6,18 +6,18 @@ use crate::{all_sets, tally::Tally};
 use kickballbox::{File, Marks, Position, Reason, Refusal, RuleSet, FILE, STACK};
 
 /// What the plain game expects at one position, once for all rule sets.
-struct Expected {
-    won: bool,
+pub struct Expected {
+    pub won: bool,
     marks: Result<Marks, Refusal>,
 }
 
 /// None where the bound does not suffice.
-fn expect(p: &Problem, at: &Position, early: bool, budget: u64) -> Option<Expected> {
+pub fn expect(p: &Problem, at: &Position, early: bool, budget: u64) -> Option<Expected> {
     let mut game = Game { problem: p, early, budget };
     Some(Expected { won: game.won(at.played())?, marks: game.marking(at.played())? })
 }
 
-fn compare(tally: &mut Tally, bytes: &[u8], at: &Position, rules: RuleSet, e: &Expected) {
+pub fn compare(tally: &mut Tally, bytes: &[u8], at: &Position, rules: RuleSet, e: &Expected) {
     let file = File::new(bytes);
     tally.compare(
         (file.judge(at, rules), file.mark(at, rules), file.search(at, rules).map(|found| found.won)),
@@ -26,31 +26,31 @@ fn compare(tally: &mut Tally, bytes: &[u8], at: &Position, rules: RuleSet, e: &E
 }
 
 /// Any bytes: the reading, and for a refused file the same refusal by every call, whatever else is wrong. Whether it was accepted.
-fn compare_bytes(tally: &mut Tally, bytes: &[u8]) -> bool {
+pub fn compare_bytes(tally: &mut Tally, bytes: &[u8]) -> bool {
     let expected = plain::read(bytes).map(|p| plain::reading(&p));
     tally.compare(File::new(bytes).read(), expected);
     if let Err(refusal) = expected {
-        tally.compare(refusals::by_every_call(bytes), vec![Some(refusal); 28]);
+        tally.compare(refusals::by_every_call(bytes), vec![Some(refusal); refusals::CALLS as usize]);
     }
     expected.is_ok()
 }
 
 /// How many positions are won, how many lost, and at how many some values win and some lose.
 #[derive(Default)]
-struct Mixture {
+pub struct Mixture {
     won: u64,
     lost: u64,
     both: u64,
 }
 
 impl Mixture {
-    fn note(&mut self, e: &Expected) {
+    pub fn note(&mut self, e: &Expected) {
         self.won += u64::from(e.won);
         self.lost += u64::from(!e.won);
         self.both += u64::from(e.marks.is_ok_and(|m| m.winning != 0 && m.winning != m.domain));
     }
 
-    fn end(self, name: &str, won: u64, lost: u64, both: u64) {
+    pub fn end(self, name: &str, won: u64, lost: u64, both: u64) {
         println!("{name}: {} won, {} lost, {} with marks of both kinds", self.won, self.lost, self.both);
         assert!(self.won > won && self.lost > lost && self.both > both, "too plain a mixture");
     }

@@ -1,6 +1,6 @@
 //! The rows of document 01 that are tried by program only.
 
-use crate::plain::{Constraint, Problem};
+use crate::plain::{Constraint, Problem, Triples};
 use crate::{lent, plain, refusals, tally::Tally};
 use kickballbox::{File, Position, Reason, Refusal, RuleSet, FILE, ROOM, TEXT};
 
@@ -58,6 +58,54 @@ fn rooms() {
     tally.end(128);
 }
 
+/// A problem of n existential variables with one value and so many three-way constraints, fewer where there are no more.
+fn with_triples(n: usize, count: usize) -> Problem {
+    let threes = (0..n).flat_map(|i| (i + 1..n).flat_map(move |j| (j + 1..n).map(move |k| [i, j, k])));
+    let triples = threes.take(count).map(|variables| Triples { variables, permitted: vec![[0; 3]] }).collect();
+    Problem { rules: None, universal: vec![false; n], domains: vec![1; n], constraints: vec![], triples }
+}
+
+/// n variables and t three-way constraints, 32 together and fewer: 128·(n + t + 1) words pass, one fewer gives 12. One constraint more than
+/// 32 together gives 27, at its record and before it is looked at.
+#[test]
+fn variables_and_triples() {
+    let mut rooms = Tally::new("boundaries: room of variables and three-way constraints");
+    let mut many = Tally::new("boundaries: 32 variables and three-way constraints, and one more");
+    let (mut sizes, mut over) = (0, 0);
+    for n in 3..=32 {
+        for count in [0, 1, 31 - n.min(31), 32 - n] {
+            let p = with_triples(n, count);
+            let bytes = plain::write(&p);
+            let file = File::new(&bytes);
+            let needed = lent::needed(p.all());
+            if p.all() > 32 {
+                continue;
+            }
+            for words in [needed, needed - 1] {
+                let refusal = (words < needed).then_some(Reason::Room.into());
+                let used = if refusal.is_some() { 0 } else { needed };
+                let came = lent::with_room(words, used, |room| file.judge_in(&Position::fresh(), RuleSet::USUAL, room));
+                rooms.compare(came, (refusal.map_or(Ok(true), Err), true));
+                sizes += 1;
+            }
+        }
+        let mut p = with_triples(n, 33 - n);
+        let t = p.triples.len();
+        let one_more = p.all() == 33;
+        let place = 5 + 4 * n + 9 * t.saturating_sub(1);
+        let expected = if one_more { Err(Refusal { reason: Reason::Many, place: Some(place) }) } else { Ok((n, t)) };
+        many.compare(File::new(&plain::write(&p)).read().map(|r| (r.n, r.t)), expected);
+        over += u64::from(one_more);
+        // the last record is wrong as well
+        p.triples.last_mut().expect("a three-way constraint").variables[2] = 99;
+        let reason = if one_more { Reason::Many } else { Reason::Triple };
+        many.compare(File::new(&plain::write(&p)).read().err(), Some(Refusal { reason, place: Some(place) }));
+    }
+    assert_eq!(over, 26);
+    rooms.end(sizes);
+    many.end(2 * 30);
+}
+
 /// With all n variables played every number of plays up to n can be held, and none above.
 #[test]
 fn lock_depths() {
@@ -84,7 +132,7 @@ fn lock_depths() {
 #[test]
 fn longest() {
     let mut tally = Tally::new("boundaries: longest file and text");
-    let mut p = Problem { rules: Some(127), universal: vec![true; 32], domains: vec![65535; 32], constraints: vec![] };
+    let mut p = Problem { rules: Some(127), universal: vec![true; 32], domains: vec![65535; 32], constraints: vec![], triples: vec![] };
     for i in 0..32 {
         for j in i + 1..32 {
             p.constraints.push(Constraint { i, j, rows: [65535; 16] });

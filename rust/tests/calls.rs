@@ -8,7 +8,7 @@ use kickballbox::{File, Marks, Position, Reason, Refusal, RuleSet, Session};
 type Made = (Result<Answer, Refusal>, bool);
 
 /// The calls of this kind in each of the stored files, made and compared: so many of each, 0 where it has none.
-fn compare(name: &str, kind: u8, counts: [u64; 2], made: impl Fn(File, &Position, &Call) -> Made) {
+fn compare(name: &str, kind: u8, counts: [u64; 3], made: impl Fn(File, &Position, &Call) -> Made) {
     for (file, count) in stored::CALLS.into_iter().zip(counts).filter(|(_, count)| *count > 0) {
         let mut tally = Tally::new(format!("{file}: {name}"));
         for call in stored::calls(file, kind) {
@@ -22,7 +22,7 @@ fn compare(name: &str, kind: u8, counts: [u64; 2], made: impl Fn(File, &Position
 fn compare_moves(
     name: &str,
     kind: u8,
-    counts: [u64; 2],
+    counts: [u64; 3],
     by_value: impl Fn(File, &Position, usize) -> Result<Position, Refusal>,
     in_session: impl Fn(&mut Session, usize) -> Result<(), Refusal>,
 ) {
@@ -37,17 +37,17 @@ fn compare_moves(
 
 #[test]
 fn plays() {
-    compare_moves("plays", stored::PLAY, [166, 260], |file, at, value| file.play(at, value), |session, value| session.play(value));
+    compare_moves("plays", stored::PLAY, [166, 260, 196], |file, at, value| file.play(at, value), |session, value| session.play(value));
 }
 
 #[test]
 fn take_backs() {
-    compare_moves("take-backs", stored::TAKE_BACK, [185, 211], |file, at, _| file.take_back(at), |session, _| session.take_back());
+    compare_moves("take-backs", stored::TAKE_BACK, [185, 211, 157], |file, at, _| file.take_back(at), |session, _| session.take_back());
 }
 
 #[test]
 fn locks() {
-    compare_moves("locks", stored::LOCK, [0, 112], |file, at, _| file.lock(at), |session, _| session.lock());
+    compare_moves("locks", stored::LOCK, [0, 112, 0], |file, at, _| file.lock(at), |session, _| session.lock());
 }
 
 #[test]
@@ -55,7 +55,7 @@ fn unlocks() {
     compare_moves(
         "unlocks",
         stored::UNLOCK,
-        [0, 219],
+        [0, 219, 0],
         |file, at, number| file.unlock(at, number),
         |session, number| session.unlock(number),
     );
@@ -63,7 +63,7 @@ fn unlocks() {
 
 #[test]
 fn open_values() {
-    compare("open values", stored::OPEN, [190, 158], |file, at, _| (file.open_values(at).map(Answer::Opened), true));
+    compare("open values", stored::OPEN, [190, 158, 186], |file, at, _| (file.open_values(at).map(Answer::Opened), true));
 }
 
 fn rules(call: &Call) -> RuleSet {
@@ -76,20 +76,20 @@ fn marks(marks: Marks) -> Answer {
 
 /// A call in the room that is stored. Where it finishes, the words that it needs are zero then.
 fn in_room(call: &Call, made: impl Fn(&mut [u16]) -> Result<Answer, Refusal>) -> Made {
-    let used = call.answer.map_or(0, |_| lent::needed(call.file[2].into()));
+    let used = call.answer.map_or(0, |_| stored::needed(&call.file));
     lent::with_room(call.words, used, made)
 }
 
 #[test]
 fn judging() {
-    compare("judging in lent room", stored::JUDGE, [188, 249], |file, at, call| {
+    compare("judging in lent room", stored::JUDGE, [188, 249, 190], |file, at, call| {
         in_room(call, |room| file.judge_in(at, rules(call), room).map(Answer::Won))
     });
 }
 
 #[test]
 fn marking() {
-    compare("marking in lent room", stored::MARK, [171, 291], |file, at, call| {
+    compare("marking in lent room", stored::MARK, [171, 291, 171], |file, at, call| {
         in_room(call, |room| file.mark_in(at, rules(call), room).map(marks))
     });
 }
@@ -119,7 +119,7 @@ fn in_room_of_their_own() {
         };
         marked.compare(file.mark(at, rules).map(marks), expected);
     }
-    judged.end(188 + 249);
-    searched.end(188 + 249);
-    marked.end(171 + 291);
+    judged.end(188 + 249 + 190);
+    searched.end(188 + 249 + 190);
+    marked.end(171 + 291 + 171);
 }

@@ -181,7 +181,7 @@ fn texts_by_hand() {
         let mut rows = [0; 16];
         (0..16).filter(|a| domains[0] >> a & 1 == 1).skip(1).for_each(|a| rows[a] = domains[1]);
         let constraints = vec![Constraint { i: 0, j: 1, rows }];
-        plain::write(&Problem { rules: None, universal: universal.to_vec(), domains: domains.to_vec(), constraints })
+        plain::write(&Problem { rules: None, universal: universal.to_vec(), domains: domains.to_vec(), constraints, triples: vec![] })
     };
     let three = "p cnf 3 3\na 1 2 0\ne 3 0\n3 0\n1 2 -3 0\n-1 -2 -3 0\n";
     compare("three values", &clash([true, false], [0b1000100100, 1]), three, false);
@@ -240,7 +240,7 @@ fn generated_problems() {
 #[test]
 fn stack_as_stated() {
     let mut tally = Tally::new("formulas: stack as stated");
-    let p = Problem { rules: None, universal: vec![false; 32], domains: vec![65535; 32], constraints: vec![] };
+    let p = Problem { rules: None, universal: vec![false; 32], domains: vec![65535; 32], constraints: vec![], triples: vec![] };
     let (bytes, length) = (plain::write(&p), qdimacs::text(&qdimacs::formula(&p)).len());
     let judged = move || File::new(&bytes).judge_formula(&mut vec![0; length]);
     let there = std::thread::Builder::new().stack_size(FORMULA_STACK + 32768).spawn(judged).unwrap().join().unwrap();

@@ -1,12 +1,22 @@
-//! Stored games under all 128 rule sets: judged, marked and searched, in lent room and in room of their own.
+//! Stored games under all 128 rule sets, those of card 7 with three-way constraints: judged, marked and searched, in lent room and in room
+//! of their own.
 
 use crate::stored::{self, Game};
 use crate::{all_sets, lent, plain, tally::Tally};
 use kickballbox::{File, Marks, Position, Reason, Refusal, RuleSet};
 
-fn n_of(game: &Game) -> usize {
-    game.file[2].into()
+/// Compares in each stored file of games: with the tallies, a game. So many cases of each tally.
+fn compare<const N: usize>(names: [&str; N], counts: [u64; 2], mut compare: impl FnMut(&mut [Tally; N], &Game)) {
+    for (file, count) in stored::GAMES.into_iter().zip(counts) {
+        let mut tallies = names.map(|name| Tally::new(format!("{file}: {name}")));
+        stored::games_of(file).iter().for_each(|game| compare(&mut tallies, game));
+        tallies.into_iter().for_each(|tally| tally.end(count));
+    }
 }
+
+/// The games, and these under all sets.
+const COUNTS: [u64; 2] = [700, 600];
+const UNDER_ALL_SETS: [u64; 2] = [128 * COUNTS[0], 128 * COUNTS[1]];
 
 /// What marking replies, and how many words it leaves zero: 22 and none where all variables are played.
 fn marks(game: &Game) -> (Result<Marks, Refusal>, usize) {
@@ -15,84 +25,89 @@ fn marks(game: &Game) -> (Result<Marks, Refusal>, usize) {
     if next == file.n {
         (Err(Reason::Done.into()), 0)
     } else {
-        (Ok(Marks { winning: game.winning, domain: file.domains[next] }), lent::needed(file.n))
+        (Ok(Marks { winning: game.winning, domain: file.domains[next] }), stored::needed(&game.file))
     }
 }
 
-/// Under each set, with as many words more than needed as the set's number says.
+/// Under each set, with as many words as its number says more than needed, or under every other more than any file needs.
+fn words(needed: usize, rules: RuleSet) -> usize {
+    let set = rules.number() as usize;
+    set + if set % 2 == 0 { needed } else { kickballbox::ROOM }
+}
+
 #[test]
 fn judged_in_room() {
-    let mut tally = Tally::new("games: judged under all sets in lent room");
-    for game in stored::games() {
-        let needed = lent::needed(n_of(&game));
+    compare(["judged under all sets in lent room"], UNDER_ALL_SETS, |[tally], game| {
+        let needed = stored::needed(&game.file);
         for rules in all_sets() {
-            let words = needed + rules.number() as usize;
+            let words = words(needed, rules);
             let came = lent::with_room(words, needed, |room| File::new(&game.file).judge_in(&game.position, rules, room));
             tally.compare(came, (Ok(game.won), true));
         }
-    }
-    tally.end(89600);
+    });
 }
 
 #[test]
 fn marked_in_room() {
-    let mut tally = Tally::new("games: marked under all sets in lent room");
-    for game in stored::games() {
-        let (expected, used) = marks(&game);
+    compare(["marked under all sets in lent room"], UNDER_ALL_SETS, |[tally], game| {
+        let (expected, used) = marks(game);
+        let needed = stored::needed(&game.file);
         for rules in all_sets() {
-            let words = lent::needed(n_of(&game)) + rules.number() as usize;
+            let words = words(needed, rules);
             let came = lent::with_room(words, used, |room| File::new(&game.file).mark_in(&game.position, rules, room));
             tally.compare(came, (expected, true));
         }
-    }
-    tally.end(89600);
+    });
 }
 
 #[test]
 fn judged_marked_and_searched() {
-    let mut judged = Tally::new("games: judged under all sets");
-    let mut marked = Tally::new("games: marked under all sets");
-    let mut searched = Tally::new("games: verdicts of searches under all sets");
-    for game in stored::games() {
+    let names = ["judged under all sets", "marked under all sets", "verdicts of searches under all sets"];
+    compare(names, UNDER_ALL_SETS, |[judged, marked, searched], game| {
         let file = File::new(&game.file);
-        let (expected, _) = marks(&game);
+        let (expected, _) = marks(game);
         for rules in all_sets() {
             judged.compare(file.judge(&game.position, rules), Ok(game.won));
             marked.compare(file.mark(&game.position, rules), expected);
             searched.compare(file.search(&game.position, rules).map(|found| found.won), Ok(game.won));
         }
-    }
-    judged.end(89600);
-    marked.end(89600);
-    searched.end(89600);
+    });
 }
 
-/// 12 with one word too few and with none, and 22 before it; the room is kept.
+/// 12 with one word too few, with the words for the variables alone where three-way constraints need more, and with none, and 22 before it;
+/// the room is kept.
 #[test]
 fn short_room() {
-    let mut judged = Tally::new("games: judged in short room");
-    let mut marked = Tally::new("games: marked in short room");
-    for game in stored::games() {
+    compare(["judged in short room", "marked in short room"], COUNTS.map(|count| 4 * count), |[judged, marked], game| {
         let file = File::new(&game.file);
-        let done = marks(&game).0.err();
-        for words in [0, 1, lent::needed(n_of(&game)) - 1] {
+        let done = marks(game).0.err();
+        let short = stored::needed(&game.file) - 1;
+        for words in [0, 1, short.min(lent::needed(game.file[2].into())), short] {
             let came = lent::with_room(words, 0, |room| file.judge_in(&game.position, RuleSet::ALL, room));
             judged.compare(came, (Err(Reason::Room.into()), true));
             let came = lent::with_room(words, 0, |room| file.mark_in(&game.position, RuleSet::ALL, room));
             marked.compare(came, (Err(done.unwrap_or(Reason::Room.into())), true));
         }
-    }
-    judged.end(2100);
-    marked.end(2100);
+    });
 }
 
 #[test]
 fn opened() {
-    let mut tally = Tally::new("games: open values");
-    for game in stored::games() {
+    compare(["open values"], COUNTS, |[tally], game| {
         tally.compare(File::new(&game.file).open_values(&game.position), Ok(game.opened));
-    }
-    tally.end(700);
+    });
+}
+
+/// The plain game and the plain open values, which other tests go by, without the library.
+#[test]
+fn by_the_plain_game() {
+    compare(["verdicts, marks and open values of the plain reading"], COUNTS, |[tally], game| {
+        let p = plain::read(&game.file).expect("an accepted file");
+        let plays = game.position.played();
+        let mut plainly = plain::Game { problem: &p, early: true, budget: u64::MAX };
+        let winning = p.domains.get(plays.len()).map_or(Some(0), |_| plainly.marks(plays));
+        tally.compare((plainly.won(plays), winning, plain::open_values(&p, plays)), (Some(game.won), Some(game.winning), game.opened));
+    });
 }
 
 /// Card 3: positions where two plays clash, an existential variable has nothing open, a play clashes with a universal variable, any two

@@ -66,7 +66,7 @@ fn beside_a_plain_list() {
     let mut replayed = Tally::new("histories: replayed");
     let mut random = Random(0x51ed2701);
     let mut refused = Refused::default();
-    for (k, game) in stored::games().iter().enumerate() {
+    for (k, game) in stored::GAMES.into_iter().flat_map(stored::games_of).enumerate() {
         let file = File::new(&game.file);
         let p = plain::read(&game.file).expect("an accepted file");
         let mut list = PlainList::new(&p);
@@ -93,12 +93,12 @@ fn beside_a_plain_list() {
             replayed.compare((shown.marks, shown.opened), (Game::whole(&p).marking(&list.plays).unwrap(), Ok(open)));
         }
     }
-    assert!(refused.all > 20_000 && refused.all < 64_000, "too plain a mixture");
+    assert!(refused.all > 37_000 && refused.all < 119_000, "too plain a mixture");
     refused.end("histories");
-    values.end(84000);
-    sessions.end(84000);
-    opened.end(700);
-    replayed.end(350);
+    values.end(120 * 1300);
+    sessions.end(120 * 1300);
+    opened.end(1300);
+    replayed.end(650);
 }
 
 /// Card 6: stored lists of calls, from the fresh position.

@@ -16,6 +16,7 @@ mod generated;
 mod groups;
 mod histories;
 mod look_ups;
+mod ordinary;
 mod reading;
 mod replays;
 mod reports;
@@ -23,6 +24,7 @@ mod rules;
 mod searches;
 mod small_jobs;
 mod small_problems;
+mod triples;
 mod writer;
 
 use kickballbox::RuleSet;

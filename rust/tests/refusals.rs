@@ -1,6 +1,6 @@
 //! What calls refuse, gathered.
 
-use crate::lent;
+use crate::{lent, look_ups};
 use kickballbox::{File, Position, Reason, Refusal, RuleSet, Session};
 
 /// More plays than any file has, as many held, and values that no domain holds.
@@ -16,6 +16,9 @@ fn refusal<R>((reply, kept): (Result<R, Refusal>, bool)) -> Option<Refusal> {
     reply.err().filter(|_| kept)
 }
 
+/// How many calls take a file, and so refuse one.
+pub const CALLS: u64 = 29;
+
 /// Why the calls that take a file turn it away, each handed whatever else it refuses too.
 pub fn by_every_call(bytes: &[u8]) -> Vec<Option<Refusal>> {
     let file = File::new(bytes);
@@ -27,6 +30,7 @@ pub fn by_every_call(bytes: &[u8]) -> Vec<Option<Refusal>> {
         file.read().err(),
         file.look_up(9, 9).err(),
         file.rows(9, 9).err(),
+        look_ups::body(file, 99).err(),
         replayed.marks.err(),
         replayed.opened.err(),
         refusal(lent::with_list(&list, &list, |list| file.arc(list))),

@@ -38,7 +38,7 @@ fn beside_a_plain_list() {
     let mut random = Random(0x7e57ca5e);
     let mut refused = Refused::default();
     let (mut calls, mut rules, mut done) = (0, 0, 0);
-    for game in stored::games() {
+    for game in stored::GAMES.into_iter().flat_map(stored::games_of) {
         let file = File::new(&game.file);
         let p = plain::read(&game.file).expect("an accepted file");
         for _ in 0..16 {
@@ -66,7 +66,7 @@ fn beside_a_plain_list() {
     assert!(calls > 300_000 && refused.all > 100_000 && rules > 100 && done > 1_000);
     refused.end("replays");
     for tally in [by_solver, by_mark, by_open, opened] {
-        tally.end(11200);
+        tally.end(16 * 1300);
     }
 }
 
@@ -74,7 +74,7 @@ fn beside_a_plain_list() {
 #[test]
 fn any_bytes_as_calls() {
     let mut tally = Tally::new("replays: a file's bytes as calls");
-    for game in stored::games() {
+    for game in stored::GAMES.into_iter().flat_map(stored::games_of) {
         let p = plain::read(&game.file).expect("an accepted file");
         let mut list = PlainList::new(&p);
         for &byte in &game.file {
@@ -83,5 +83,5 @@ fn any_bytes_as_calls() {
         let replayed = File::new(&game.file).replay(&game.file, RuleSet::USUAL);
         tally.compare((replayed.marks, replayed.opened), (marks(&p, &list.plays, 3), Ok(plain::open_values(&p, &list.plays))));
     }
-    tally.end(700);
+    tally.end(1300);
 }

@@ -41,6 +41,20 @@ fn stored_games() {
     compare_all("reports: files of game.bin", stored::games().into_iter().map(|game| game.file).collect(), 700);
 }
 
+/// Card 7: files with three-way constraints, whose texts are stored.
+#[test]
+fn stored_texts() {
+    let mut texts = Tally::new("card07-text.bin: texts");
+    let mut buffers = Tally::new("card07-text.bin: texts in buffers that fit and do not");
+    for (bytes, text) in stored::all("card07-text.bin", |c| (c.file(), c.file())) {
+        let text = String::from_utf8(text).expect("a text");
+        texts.compare(File::new(&bytes).text().as_ref(), Ok(&text));
+        compare(&mut buffers, &bytes, &text);
+    }
+    texts.end(120);
+    buffers.end(6 * 120);
+}
+
 #[test]
 fn generated_files() {
     let mut random = Random(0xfeed5eed);
@@ -71,5 +85,5 @@ fn examples() {
             compare(&mut tally, &bytes, &std::fs::read_to_string(path).expect("the text of an example"));
         }
     }
-    tally.end(6 * 7);
+    tally.end(6 * 10);
 }

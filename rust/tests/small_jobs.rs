@@ -16,6 +16,7 @@ fn job(sides: &str, domains: &[u16], constraints: &[(usize, usize, [u16; 2])]) -
         universal: sides.chars().map(|side| side == 'A').collect(),
         domains: domains.to_vec(),
         constraints: constraints.collect(),
+        triples: vec![],
     })
 }
 

@@ -10,7 +10,7 @@ pub fn single() -> Vec<Problem> {
     let mut all = vec![];
     for universal in [false, true] {
         for domain in 1..=3 {
-            all.push(Problem { rules: None, universal: vec![universal], domains: vec![domain], constraints: vec![] });
+            all.push(Problem { rules: None, universal: vec![universal], domains: vec![domain], constraints: vec![], triples: vec![] });
         }
     }
     all
@@ -21,8 +21,13 @@ pub fn double() -> Vec<Problem> {
     let mut all = vec![];
     for k in 0..36 {
         let (sides, first, second) = (k % 4, 1 + k / 4 % 3, 1 + k / 12);
-        let free =
-            Problem { rules: None, universal: vec![sides & 1 == 1, sides & 2 == 2], domains: vec![first, second], constraints: vec![] };
+        let free = Problem {
+            rules: None,
+            universal: vec![sides & 1 == 1, sides & 2 == 2],
+            domains: vec![first, second],
+            constraints: vec![],
+            triples: vec![],
+        };
         for (zero, one) in (0..4).flat_map(|zero| (0..4).map(move |one| (zero, one))) {
             let may = |a: u16| if first >> a & 1 == 1 { second } else { 0 };
             if zero & !may(0) == 0 && one & !may(1) == 0 {

@@ -1,6 +1,6 @@
 //! The stored cases, as `cases/README.md` lays them out.
 
-use crate::plain;
+use crate::{lent, plain};
 use kickballbox::{OpenValues, Position, Reason, Refusal, RuleSet};
 
 /// A stored file, and how far it is read.
@@ -72,9 +72,9 @@ pub fn all<T>(name: &'static str, case: impl Fn(&mut Cases) -> T) -> Vec<T> {
     read
 }
 
-/// A stored refusal. 1 to 9 are the file's, with their place; but 8 is also the call's: a file's stands at its RS, so not at 0.
+/// A stored refusal. 1 to 9, 26 and 27 are the file's, with their place; but 8 is also the call's: a file's stands at its RS, so not at 0.
 pub fn refusal(number: u8, place: u16) -> Refusal {
-    let of_file = number <= 9 && (number, place) != (8, 0);
+    let of_file = matches!(number, 1..=9 | 26 | 27) && (number, place) != (8, 0);
     Refusal { reason: Reason::of(number.into()), place: of_file.then_some(place.into()) }
 }
 
@@ -90,6 +90,11 @@ fn n_of(file: &[u8]) -> usize {
     file[2].into()
 }
 
+/// How many words judging an accepted file needs: its variables and its three-way constraints count.
+pub fn needed(file: &[u8]) -> usize {
+    lent::needed(plain::read(file).expect("an accepted file").all())
+}
+
 /// A position, and what the game comes to from there.
 pub struct Game {
     pub file: Vec<u8>,
@@ -99,8 +104,15 @@ pub struct Game {
     pub opened: OpenValues,
 }
 
+/// The stored files of games. Those of the second have three-way constraints.
+pub const GAMES: [&str; 2] = ["game.bin", "card07-game.bin"];
+
 pub fn games() -> Vec<Game> {
-    all("game.bin", |c| {
+    games_of(GAMES[0])
+}
+
+pub fn games_of(name: &'static str) -> Vec<Game> {
+    all(name, |c| {
         let file = c.file();
         let position = played(c);
         let n = n_of(&file);
@@ -162,8 +174,8 @@ pub const JUDGE: u8 = 4;
 pub const LOCK: u8 = 5;
 pub const UNLOCK: u8 = 6;
 
-/// The stored files of calls. In the second an argument has two bytes.
-pub const CALLS: [&str; 2] = ["calls.bin", "card06.bin"];
+/// The stored files of calls. In the second an argument has two bytes; the files of the third have three-way constraints.
+pub const CALLS: [&str; 3] = ["calls.bin", "card06.bin", "card07-calls.bin"];
 
 /// The calls of this kind in one of them.
 pub fn calls(name: &'static str, kind: u8) -> Vec<Call> {

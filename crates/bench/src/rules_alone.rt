@@ -5,15 +5,15 @@ ghost use Rattle.rule_entries.specs.Alone.{arc_told, arc_left, forward_told, for
 ghost use Rattle.bench.specs.Number.{as_number};
 
 use crate::number::number;
-use file_decoder::decode;
 use rule_entries::{arc, forward_check, interchangeable, look_ahead, pure};
+use ternary_decoder::decode_ordinary;
 
 // Reading and decoding alone: the first domain.
 #[unsafe(no_mangle)]
 pub extern "C" fn bench_decode(f: &[u8]) -> u64
     ensures { result ≡ get_or (domains_of f.now) 0 0 }
 {
-    decode(f).map_or(0, |arrays| arrays.domains[0] as u64)
+    decode_ordinary(f).map_or(0, |arrays| arrays.domains[0] as u64)
 }
 
 #[unsafe(no_mangle)]

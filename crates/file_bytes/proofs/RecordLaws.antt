@@ -8,11 +8,12 @@ use native.Mathlib.Numerals.{add-one}
 use native.Mathlib.Omega.{arith}
 use Rattle.std.specs.Prelude.{Option, None, Some}
 use Rattle.std.specs.Int.{w16, to_le_bytes}
-use Rattle.file_layout.specs.Layout.{QP, RS, CT, EN}
-use Rattle.buffer.specs.Stored.{stored}
-use Rattle.file_bytes.specs.Bytes.{mark_bytes, word_bytes, qp_bytes, rs_bytes, head_bytes, variable_mark, variable_bytes, variables_bytes, pair_bytes, rows_bytes, constraint_bytes, constraints_bytes, Handed, variables_in, constraints_in, domain_in, one_in, two_in, row_handed, bytes_of, start_of, length_of}
+use Rattle.file_layout.specs.Layout.{QP, RS, CT, TT, EN}
+use Rattle.buffer.specs.Stored.{stored, joined}
+use Rattle.file_bytes.specs.Bytes.{mark_bytes, word_bytes, qp_bytes, rs_bytes, head_bytes, variable_mark, variable_bytes, variables_bytes, pair_bytes, rows_bytes, constraint_bytes, constraints_bytes, ternary_bytes, Handed, Sized, variables_in, constraints_in, ternary_in, ternaries_in, domain_in, from, one_in, two_in, row_handed, size_in, start_in, count_in, bytes_of, start_of, length_of}
 use Rattle.mask.specs.Mask.{bit}
-use Rattle.buffer.proofs.StoredLaws.{stored_more, stored_behind, InRow, row_of_width, length-joined, joined-stored}
+use Rattle.buffer.proofs.StoredLaws.{stored_more, stored_behind, InRow, row_of_width, length-joined, joined-stored, one_each}
+use Rattle.file_bytes.proofs.WalkLaws.{start_next}
 
 -- ---- lengths
 
@@ -57,6 +58,22 @@ length_constraint i j row = length-append (mark_bytes CT ++ pair_bytes i j) (row
 pub constraints-row : (one two : ℕ → ℕ) (row : ℕ → ℕ → ℕ) (p k : ℕ) → InRow (λ t. constraint_bytes (one t) (two t) (row t)) p (λ t. p + 36 * t) k
 constraints-row one two row = row_of_width (λ t. constraint_bytes (one t) (two t) (row t)) 36 (λ t. length_constraint (one t) (two t) (row t))
 
+-- A three-way constraint takes two bytes more than it has numbers, and those before record q two more each.
+bytes_row : (x : ℕ → ℕ) (p k : ℕ) → InRow (λ i. x i % 256 ∷ []) p (λ i. p + i) k
+bytes_row x p k = record { first = omega arith; next = λ i h. omega arith }
+
+pub length_ternary : (x : ℕ → ℕ) (size : ℕ) → length (ternary_bytes x size) ≡ 2 + size
+unfolding ternary_bytes
+length_ternary x size = length-append (mark_bytes TT) _ ∙ omega (arith, length_mark TT, one_each (λ k. x k % 256) size)
+
+pub ternaries-row : (xs : List ℕ) (p k : ℕ) → InRow (ternary_in xs) p (λ q. p + (start_in xs q + 2 * q)) k
+unfolding ternary_in start_in
+ternaries-row xs p k =
+    record {
+      first = omega arith;
+      next = λ q h. omega (arith, start_next xs q, length_ternary (from xs (start_in xs q)) (size_in xs (start_in xs q)));
+    }
+
 -- ---- where the parts of a file begin
 
 -- The variables begin at 5, or at 8 behind a rule set.
@@ -80,7 +97,7 @@ module _ (h : Handed) where
       length-append head_in (variables_in h)
       ∙ omega (arith, length_head h.n h.m h.rules, length-joined _ _ _ _ (variables-row (bit h.universal) (domain_in h.domains) (start_of h.rules) h.n))
 
-  -- The constraints end where `EN` begins.
+  -- The constraints end where the three-way ones begin.
   pub length_body : length ((head_in ++ variables_in h) ++ constraints_in h) ≡ start_of h.rules + 4 * h.n + 36 * h.m
   unfolding constraints_bytes
   length_body =
@@ -88,28 +105,45 @@ module _ (h : Handed) where
       length-append (head_in ++ variables_in h) (constraints_in h)
       ∙ omega (arith, length_front, length-joined _ _ _ _ (constraints-row (one_in h.constraints) (two_in h.constraints) (row_handed h.constraints) q h.m))
 
-  -- "The length is 7 + 4n + 36m, plus 3 with `RS`."
-  pub length_bytes : length (bytes_of h) ≡ length_of h
-  unfolding bytes_of length_of
-  length_bytes = length-append ((head_in ++ variables_in h) ++ constraints_in h) (mark_bytes EN) ∙ omega (arith, length_body, length_mark EN)
+  -- These end where `EN` begins.
+  pub length_records : Sized h →
+      length (((head_in ++ variables_in h) ++ constraints_in h) ++ ternaries_in h)
+      ≡ start_of h.rules + 4 * h.n + 36 * h.m + (length h.ternaries + 2 * count_in h.ternaries)
+  length_records z =
+      let q = start_of h.rules + 4 * h.n + 36 * h.m in
+      length-append ((head_in ++ variables_in h) ++ constraints_in h) (ternaries_in h)
+      ∙ omega (arith, length_body, z.whole, length-joined _ _ _ _ (ternaries-row h.ternaries q (count_in h.ternaries)))
 
-  -- The four parts of a file, stored one behind another.
-  pub all_stored : (l : List ℕ) →
+  -- "The length is 7 + 4n + 36m, plus 3 with `RS`", and two more than its numbers for each record `TT`.
+  pub length_bytes : Sized h → length (bytes_of h) ≡ length_of h
+  unfolding bytes_of length_of
+  length_bytes z =
+      length-append (((head_in ++ variables_in h) ++ constraints_in h) ++ ternaries_in h) (mark_bytes EN) ∙ omega (arith, length_records z, length_mark EN)
+
+  -- The five parts of a file, stored one behind another.
+  pub all_stored : Sized h → (l : List ℕ) →
       stored
+      (stored
       (stored
       (stored (stored l 0 head_in) (start_of h.rules) (variables_in h))
       (start_of h.rules + 4 * h.n)
       (constraints_in h))
       (start_of h.rules + 4 * h.n + 36 * h.m)
+      (ternaries_in h))
+      (start_of h.rules + 4 * h.n + 36 * h.m + (length h.ternaries + 2 * count_in h.ternaries))
       (mark_bytes EN)
       ≡ stored l 0 (bytes_of h)
   unfolding bytes_of
-  all_stored l =
+  all_stored w l =
       let s = start_of h.rules in
       let q = s + 4 * h.n in
-      ap (λ (z : List ℕ). stored (stored z q (constraints_in h)) (q + 36 * h.m) (mark_bytes EN)) (stored_behind head_in (variables_in h) l s (length_head h.n h.m h.rules))
-      ∙ ap (λ (z : List ℕ). stored z (q + 36 * h.m) (mark_bytes EN)) (stored_behind (head_in ++ variables_in h) (constraints_in h) l q length_front)
-      ∙ stored_behind ((head_in ++ variables_in h) ++ constraints_in h) (mark_bytes EN) l (q + 36 * h.m) length_body
+      let b = q + 36 * h.m in
+      let e = b + (length h.ternaries + 2 * count_in h.ternaries) in
+      ap (λ (z : List ℕ). stored (stored (stored z q (constraints_in h)) b (ternaries_in h)) e (mark_bytes EN))
+      (stored_behind head_in (variables_in h) l s (length_head h.n h.m h.rules))
+      ∙ ap (λ (z : List ℕ). stored (stored z b (ternaries_in h)) e (mark_bytes EN)) (stored_behind (head_in ++ variables_in h) (constraints_in h) l q length_front)
+      ∙ ap (λ (z : List ℕ). stored z e (mark_bytes EN)) (stored_behind ((head_in ++ variables_in h) ++ constraints_in h) (ternaries_in h) l b length_body)
+      ∙ stored_behind (((head_in ++ variables_in h) ++ constraints_in h) ++ ternaries_in h) (mark_bytes EN) l e (length_records w)
 
 -- ---- a record behind those before it
 
@@ -164,3 +198,21 @@ pub constraints-stored : (l : List ℕ) (i : ℕ) (one two : ℕ → ℕ) (row :
     stored (stored l i (constraints_bytes one two row k)) (i + 36 * k) (constraint_bytes (one k) (two k) (row k)) ≡ stored l i (constraints_bytes one two row (suc k))
 unfolding constraints_bytes
 constraints-stored l i one two row k = joined-stored _ i _ k (constraints-row one two row i k) l
+
+one_stored : (l : List ℕ) (i b : ℕ) → set l i b ≡ stored l i (b ∷ [])
+unfolding stored
+one_stored l i b = refl
+
+-- One byte more; a mark and the numbers; one more three-way constraint.
+pub byte_stored : (l : List ℕ) (i : ℕ) (x : ℕ → ℕ) (k : ℕ) →
+    set (stored l i (joined (λ k. x k % 256 ∷ []) k)) (i + k) (x k % 256) ≡ stored l i (joined (λ k. x k % 256 ∷ []) (suc k))
+byte_stored l i x k = one_stored _ _ _ ∙ joined-stored (λ k. x k % 256 ∷ []) i (λ k. i + k) k (bytes_row x i k) l
+
+pub ternary_stored : (l : List ℕ) (p : ℕ) (x : ℕ → ℕ) (size : ℕ) →
+    stored (stored l p (mark_bytes TT)) (p + 2) (joined (λ k. x k % 256 ∷ []) size) ≡ stored l p (ternary_bytes x size)
+unfolding ternary_bytes
+ternary_stored l p x size = stored_more (mark_bytes TT) (joined (λ k. x k % 256 ∷ []) size) l p 2 (length_mark TT)
+
+pub ternaries-stored : (l xs : List ℕ) (i k : ℕ) →
+    stored (stored l i (joined (ternary_in xs) k)) (i + (start_in xs k + 2 * k)) (ternary_in xs k) ≡ stored l i (joined (ternary_in xs) (suc k))
+ternaries-stored l xs i k = joined-stored (ternary_in xs) i _ k (ternaries-row xs i k) l

@@ -1,10 +1,10 @@
 -- The bytes of a problem, record by record: what the writer writes. A record's numbers are functions here, of a variable, of a
 -- constraint, and of a row of a constraint; `bytes_of` takes them from what the writer is handed.
-use Rattle.std.specs.Prelude.{ℕ, ◌+◌, ◌*◌, ◌/◌, ◌%◌, ◌≤◌, Bool, true, false, List, [], ◌∷◌, ◌++◌, length, get_or, Option, None, Some}
+use Rattle.std.specs.Prelude.{◌≡◌, ℕ, zero, suc, ◌+◌, ◌*◌, ◌/◌, ◌%◌, ◌≤◌, Bool, true, false, cond, ◌&&◌, List, [], ◌∷◌, ◌++◌, length, get_or, leb, eqb, Option, None, Some}
 use Rattle.mask.specs.Mask.{bit}
 use Rattle.buffer.specs.Stored.{joined}
 use Rattle.file_bytes.specs.declared.Numbers.{Numbers}
-use Rattle.file_layout.specs.Layout.{QP, RS, VE, VA, CT, EN}
+use Rattle.file_layout.specs.Layout.{QP, RS, VE, VA, CT, TT, EN}
 
 unfoldable pub mark_bytes : List ℕ → List ℕ
 mark_bytes mark = get_or mark 0 0 ∷ get_or mark 1 0 ∷ []
@@ -49,9 +49,13 @@ constraint_bytes i j row = (mark_bytes CT ++ pair_bytes i j) ++ rows_bytes row 1
 unfoldable pub constraints_bytes : (ℕ → ℕ) → (ℕ → ℕ) → (ℕ → ℕ → ℕ) → ℕ → List ℕ
 constraints_bytes one two row = joined (λ t. constraint_bytes (one t) (two t) (row t))
 
+-- `TT`: the numbers x 0, x 1, .. (the tests keep all of them below 256), as many as `size`.
+unfoldable pub ternary_bytes : (ℕ → ℕ) → ℕ → List ℕ
+ternary_bytes x size = mark_bytes TT ++ joined (λ k. x k % 256 ∷ []) size
+
 -- ---- the numbers that the writer is handed
 
--- n domains, and 18 numbers a constraint (i, j, its rows).
+-- n domains, 18 numbers a constraint (i, j, its rows), and the numbers of the records `TT` one behind another: "i, j, k, count and triples".
 pub record Handed : Type 0 where
   pub n : ℕ
   pub m : ℕ
@@ -59,14 +63,15 @@ pub record Handed : Type 0 where
   pub universal : ℕ
   pub domains : List ℕ
   pub constraints : List ℕ
+  pub ternaries : List ℕ
 
-abbrev pub handed : ℕ → ℕ → Option ℕ → ℕ → List ℕ → List ℕ → Handed
-handed n m rules universal domains constraints =
-    record { n = n; m = m; rules = rules; universal = universal; domains = domains; constraints = constraints }
+abbrev pub handed : ℕ → ℕ → Option ℕ → ℕ → List ℕ → List ℕ → List ℕ → Handed
+handed n m rules universal domains constraints ternaries =
+    record { n = n; m = m; rules = rules; universal = universal; domains = domains; constraints = constraints; ternaries = ternaries }
 
--- The two lists beside the other four numbers.
-abbrev pub handed_with : Numbers → List ℕ → List ℕ → Handed
-handed_with x domains constraints = handed x.n x.m x.rules x.universal domains constraints
+-- The three lists beside the other four numbers.
+abbrev pub handed_with : Numbers → List ℕ → List ℕ → List ℕ → Handed
+handed_with x domains constraints ternaries = handed x.n x.m x.rules x.universal domains constraints ternaries
 
 abbrev pub domain_in : List ℕ → ℕ → ℕ
 domain_in domains i = get_or domains i 0
@@ -84,10 +89,35 @@ two_in constraints t = get_or constraints (18 * t + 1) 0
 abbrev pub row_handed : List ℕ → ℕ → ℕ → ℕ
 row_handed constraints t = from constraints (18 * t + 2)
 
+-- How many numbers the record has that begins at p: "4 bytes and 3 more for each triple counted". Where record q begins.
+unfoldable pub size_in : List ℕ → ℕ → ℕ
+size_in xs p = 4 + 3 * from xs p 3
+
+unfoldable pub start_in : List ℕ → ℕ → ℕ
+start_in xs zero = 0
+start_in xs (suc q) = start_in xs q + size_in xs (start_in xs q)
+
+-- How many whole records stand in a row from p on; no more than k are counted. A list has no
+-- more records than numbers, so with its length for k all are counted.
+unfoldable pub whole_at : List ℕ → ℕ → Bool
+whole_at xs p = leb (p + 4) (length xs) && leb (p + size_in xs p) (length xs)
+
+unfoldable pub records_from : List ℕ → ℕ → ℕ → ℕ
+records_from xs p zero = 0
+records_from xs p (suc k) = cond (whole_at xs p) (suc (records_from xs (p + size_in xs p) k)) 0
+
+unfoldable pub count_in : List ℕ → ℕ
+count_in xs = records_from xs 0 (length xs)
+
+-- The list holds whole records: "a list that stops within a record" is none such.
+unfoldable pub whole_records : List ℕ → Bool
+whole_records xs = eqb (start_in xs (count_in xs)) (length xs)
+
 -- Lists as long as the counts say.
 pub record Sized (h : Handed) : Type 0 where
   pub masks : h.n ≤ length h.domains
   pub rows : 18 * h.m ≤ length h.constraints
+  pub whole : start_in h.ternaries (count_in h.ternaries) ≡ length h.ternaries
 
 -- ---- the whole file
 
@@ -97,13 +127,19 @@ variables_in h = variables_bytes (bit h.universal) (domain_in h.domains) h.n
 abbrev pub constraints_in : Handed → List ℕ
 constraints_in h = constraints_bytes (one_in h.constraints) (two_in h.constraints) (row_handed h.constraints) h.m
 
-unfoldable pub bytes_of : Handed → List ℕ
-bytes_of h = ((head_bytes h.n h.m h.rules ++ variables_in h) ++ constraints_in h) ++ mark_bytes EN
+unfoldable pub ternary_in : List ℕ → ℕ → List ℕ
+ternary_in xs q = ternary_bytes (from xs (start_in xs q)) (size_in xs (start_in xs q))
 
--- Where the variables begin, and "The length is 7 + 4n + 36m, plus 3 with `RS`".
+abbrev pub ternaries_in : Handed → List ℕ
+ternaries_in h = joined (ternary_in h.ternaries) (count_in h.ternaries)
+
+unfoldable pub bytes_of : Handed → List ℕ
+bytes_of h = (((head_bytes h.n h.m h.rules ++ variables_in h) ++ constraints_in h) ++ ternaries_in h) ++ mark_bytes EN
+
+-- Where the variables begin, and "The length is 7 + 4n + 36m, plus 3 with `RS`", and two more than its numbers for each record `TT`.
 unfoldable pub start_of : Option ℕ → ℕ
 start_of None = 5
 start_of (Some k) = 8
 
 unfoldable pub length_of : Handed → ℕ
-length_of h = start_of h.rules + 4 * h.n + 36 * h.m + 2
+length_of h = start_of h.rules + 4 * h.n + 36 * h.m + (length h.ternaries + 2 * count_in h.ternaries) + 2

@@ -8,13 +8,16 @@ mod put;
 mod records;
 mod whole;
 
-// The numbers that the writer is handed beside its two lists: variables and constraints, the rule set or none, the universal
-// variables as bits.
+pub use records::{count_records, size_in};
+
+// The numbers that the writer is handed beside its lists: variables and constraints, the rule set or none, the universal variables as
+// bits; and how many records the list of three-way constraints holds.
 #[derive(Clone, Copy)]
 pub struct Numbers {
     pub n: usize,
     pub m: usize,
     pub rules: Option<u8>,
     pub universal: u64,
+    pub t: usize,
     ghost counts: { (n ≤ 32) × (m ≤ 496) },
 }

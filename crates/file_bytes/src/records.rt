@@ -1,9 +1,10 @@
-// The records VE, VA and CT.
-ghost use Rattle.std.specs.Prelude.{◌≡◌, ◌+◌, ◌*◌, ◌≤◌, length};
+// The records VE, VA, CT and TT.
+ghost use Rattle.std.specs.Prelude.{◌≡◌, ◌+◌, ◌*◌, ◌%◌, ◌≤◌, [], ◌∷◌, cond, length, None, Some};
 ghost use Rattle.mask.specs.Mask.{bit};
-ghost use Rattle.buffer.specs.Stored.{stored};
+ghost use Rattle.buffer.specs.Stored.{stored, joined};
 ghost use Rattle.file_bytes.specs.Bytes.{variable_mark, variable_bytes, variables_bytes, rows_bytes, constraint_bytes, constraints_bytes};
 ghost use Rattle.file_bytes.specs.Bytes.{domain_in, one_in, two_in, row_handed, from};
+ghost use Rattle.file_bytes.specs.Bytes.{ternary_bytes, ternary_in, size_in, start_in, count_in, whole_records};
 
 use crate::Numbers;
 use crate::put::{put_two, put_word};
@@ -67,4 +68,66 @@ pub fn put_constraints(buf: &mut [u8], at: usize, m: usize, xs: &[u16])
     for k in 0..m {
         put_constraint(buf, at + 36 * k, xs, k);
     }
+}
+
+// So many numbers from base on, a byte each.
+fn put_bytes(buf: &mut [u8], at: usize, xs: &[u16], base: usize, size: usize)
+    requires { (at + size ≤ length buf.old) × (base + size ≤ length xs.now) }
+    ensures { buf.new ≡ stored buf.old at (joined (λ k. from xs.now base k % 256 ∷ []) size) }
+{
+    for k in 0..size {
+        buf[at + k] = (xs[base + k] % 256) as u8;
+    }
+}
+
+// The three-way constraint whose numbers begin at base.
+fn put_ternary(buf: &mut [u8], at: usize, xs: &[u16], base: usize, size: usize)
+    requires { (at + 2 + size ≤ length buf.old) × (base + size ≤ length xs.now) }
+    ensures { buf.new ≡ stored buf.old at (ternary_bytes (from xs.now base) size) }
+{
+    put_two(buf, at, *b"TT");
+    put_bytes(buf, at + 2, xs, base, size);
+}
+
+// How many numbers the record has that begins at p.
+pub fn size_in(xs: &[u16], p: usize) -> usize
+    requires { p + 4 ≤ length xs.now }
+    ensures { (result ≡ size_in xs.now p) × (result ≤ 196609) }
+{
+    4 + 3 * xs[p + 3] as usize
+}
+
+// The t records of the list, which holds them whole.
+pub fn put_ternaries(buf: &mut [u8], at: usize, t: usize, xs: &[u16])
+    requires { (t ≤ count_in xs.now) × (at + start_in xs.now t + 2 * t ≤ length buf.old) }
+    ensures { buf.new ≡ stored buf.old at (joined (ternary_in xs.now) t) }
+{
+    let mut base = 0;
+    let mut end = at;
+    for _ in 0..t {
+        let size = size_in(xs, base);
+        put_ternary(buf, end, xs, base, size);
+        base += size;
+        end += 2 + size;
+    }
+}
+
+// How many records the list holds, whole and one behind another; none where it stops within a record.
+pub fn count_records(xs: &[u16]) -> Option<usize>
+    ensures { result ≡ cond (whole_records xs.now) (Some (count_in xs.now)) None }
+{
+    let mut base = 0;
+    let mut t = 0;
+    while base < xs.len() {
+        if xs.len() - base < 4 {
+            return None;
+        }
+        let size = size_in(xs, base);
+        if xs.len() - base < size {
+            return None;
+        }
+        base += size;
+        t += 1;
+    }
+    Some(t)
 }

@@ -1,11 +1,11 @@
 // The whole file of the numbers: its length, its head (QP and RS), its records.
 ghost use Rattle.std.specs.Prelude.{◌≡◌, ◌+◌, ◌*◌, ◌≤◌, length};
 ghost use Rattle.buffer.specs.Stored.{stored};
-ghost use Rattle.file_bytes.specs.Bytes.{head_bytes, start_of, bytes_of, length_of, handed_with, Sized};
+ghost use Rattle.file_bytes.specs.Bytes.{head_bytes, start_of, bytes_of, length_of, count_in, handed_with, Sized};
 
 use crate::Numbers;
 use crate::put::{put_two, put_word};
-use crate::records::put_constraints;
+use crate::records::{put_constraints, put_ternaries};
 
 impl Numbers {
     // Where the variables begin.
@@ -18,11 +18,12 @@ impl Numbers {
         }
     }
 
-    // How long the file is.
-    pub fn length(self) -> usize
-        ensures { result ≡ start_of self.rules + 4 * self.n + 36 * self.m + 2 }
+    // How long the file is, with a list of so many numbers of three-way constraints.
+    pub fn length(self, ternaries: usize) -> usize
+        requires { (ternaries ≤ 65535) × (self.t ≤ 65535) }
+        ensures { result ≡ start_of self.rules + 4 * self.n + 36 * self.m + (ternaries + 2 * self.t) + 2 }
     {
-        self.start() + 4 * self.n + 36 * self.m + 2
+        self.start() + 4 * self.n + 36 * self.m + (ternaries + 2 * self.t) + 2
     }
 
     // `QP`, and `RS` where there is a rule set.
@@ -41,16 +42,19 @@ impl Numbers {
 
     // The whole file, at the front of the buffer.
     #[tactic(auto, unfolding(crate::specs::Bytes::length_of))]
-    pub fn put(self, buf: &mut [u8], domains: &[u16], constraints: &[u16])
-        requires { Sized (handed_with self domains.now constraints.now)
-            × (length_of (handed_with self domains.now constraints.now) ≤ length buf.old) }
-        ensures { buf.new ≡ stored buf.old 0 (bytes_of (handed_with self domains.now constraints.now)) }
+    pub fn put(self, buf: &mut [u8], domains: &[u16], constraints: &[u16], ternaries: &[u16])
+        requires sized { Sized (handed_with self domains.now constraints.now ternaries.now) }
+        requires count { self.t ≡ count_in ternaries.now }
+        requires room { length_of (handed_with self domains.now constraints.now ternaries.now) ≤ length buf.old }
+        ensures { buf.new ≡ stored buf.old 0 (bytes_of (handed_with self domains.now constraints.now ternaries.now)) }
     {
         let s = self.start();
         let q = s + 4 * self.n;
+        let behind = q + 36 * self.m;
         self.put_head(buf);
         self.put_variables(buf, s, domains);
         put_constraints(buf, q, self.m, constraints);
-        put_two(buf, q + 36 * self.m, *b"EN");
+        put_ternaries(buf, behind, self.t, ternaries);
+        put_two(buf, behind + (ternaries.len() + 2 * self.t), *b"EN");
     }
 }

@@ -1,4 +1,5 @@
-// The constraints of a file one by one, by their numbers: what the solver reads of an accepted file beside the reading's reply. It
+// The constraints of a file one by one, of two variables by their numbers and of three by their places: what the solver reads of an accepted file
+// beside the reading's reply. It
 // rests on `file_layout`, and its laws on what reader and look-up tell. Every function here is for `file_decoder`.
 #![tactic(auto)]
 
@@ -6,9 +7,11 @@ ghost use Rattle.std.specs.Prelude.{◌≡◌};
 ghost use Rattle.file_constraints.specs.Constraints.{constraints_at};
 
 mod constraint;
+mod ternary;
 
 pub use constraint::FileConstraint;
 use file_layout::{byte_at, variables_at};
+pub use ternary::FileTernary;
 
 // Where the constraints begin, asked once for a file.
 #[tactic(auto, using(file_layout::proofs::LayoutLaws::start_most), unfolding(file_layout::specs::Layout::constraints_at))]

@@ -1,5 +1,7 @@
 -- Runs of words stored one behind another.
 pub mod Runs
+-- The words of one pair that is given a constraint.
+pub mod Pairs
 -- The arrays after so many constraints, place by place.
 pub mod Entered
 -- The problem of an accepted file: its size and its domains.

@@ -1,6 +1,6 @@
--- The arrays of an accepted file state its problem: what the constraints' numbers give by the index is what the look-up finds.
+-- The arrays of an accepted file state its problem: what the constraints' numbers give by the index is what the look-up finds. And what is left free for more.
 use Prim.Native.Nat.{ℕ, ◌+◌, ◌*◌, ◌≤◌, ◌<◌}
-use mathlib.Core.Path.{◌≡◌, refl, sym, ap, ap₂, subst, ◌∙◌}
+use mathlib.Core.Path.{◌≡◌, refl, sym, ap, subst, ◌∙◌}
 use mathlib.Core.Bool.{true, false, ◌||◌, or-false}
 use mathlib.Core.List.{List}
 use lib.ListN.{length, get_or, take, replicate, length-replicate, get_or-replicate, get_or-eq_default}
@@ -8,26 +8,26 @@ use native.Mathlib.Omega.{arith}
 use Rattle.mask.specs.Range.{some}
 use Rattle.mask.specs.Mask.{bit, mask_of}
 use Rattle.mask.proofs.Logic.{holds, fails, test, by_lt, clash}
-use Rattle.mask.proofs.Bits.{bit_of_zero}
-use Rattle.mask.proofs.Masks.{bit-mask_of}
+use Rattle.mask.proofs.Bits.{bit_of_zero, bit_high}
+use Rattle.mask.proofs.Masks.{mask_of_lt, bit-mask_of}
 use Rattle.solver_arrays.specs.declared.arrays.Arrays.{Arrays}
 use Rattle.solver_arrays.specs.Blocks.{InRange}
 use Rattle.solver_arrays.specs.Arrays.{row_in, States}
 use Rattle.std.specs.Prelude.{Result, Ok, Err}
 use Rattle.refusal.specs.declared.reason.Fault.{Fault}
 use Rattle.refusal.specs.Chain.{Fine}
-use Rattle.file_reader.specs.declared.Head.{Head}
-use Rattle.file_reader.specs.Reading.{n_of, m_of, domains_of, universal_bits_of, verdict_of}
-use Rattle.file_reader.proofs.Accepted.{Shows, variables_most, universal-shown}
+use Rattle.file_reader.specs.declared.Reading.{Reading}
+use Rattle.file_reader.specs.Reading.{n_of, m_of, domains_of, universal_bits, universal_bits_of, verdict_of}
+use Rattle.file_reader.proofs.Accepted.{Shows, variables_most, domains-length, universal-shown}
 use Rattle.file_constraints.specs.Constraints.{constraints_at, constraint_one, constraint_two, constraint_row, joins, Constraints}
 use Rattle.file_constraints.specs.Pairs.{constrained_of, compatible_of}
-use Rattle.file_constraints.proofs.ConstraintLaws.{constraints_stand}
+use Rattle.file_constraints.proofs.ConstraintLaws.{constraints_stand, constraint_below}
 use Rattle.file_constraints.proofs.PairLaws.{free_of, constrained_out, constrained_on, constrained_back, constrained_below, constrained_is, compatible_on, compatible_back}
-use Rattle.file_decoder.specs.FileProblem.{problem_of, ordinary_of}
-use Rattle.file_decoder.specs.Tables.{column_of, near_to, index_to, rows_to, near_start, index_start, rows_start}
-use Rattle.file_decoder.specs.Decoded.{FileGiven, Decodes}
-use Rattle.file_decoder.proofs.FileLaws.{problem_domains}
-use Rattle.file_decoder.proofs.Entered.{rows_first, rows_at, columns_at, index_on, index_back, index_none, near_joins}
+use Rattle.file_decoder.specs.FileProblem.{problem_of}
+use Rattle.file_decoder.specs.Tables.{column_of, near_to, index_to, rows_to, near_start, index_start, rows_start, SameVariables}
+use Rattle.file_decoder.specs.Decoded.{FileGiven, Decodes, Unconstrained}
+use Rattle.file_decoder.proofs.FileLaws.{problem_size, problem_domains}
+use Rattle.file_decoder.proofs.Entered.{length_rows, rows_first, rows_at, columns_at, length_index, index_on, index_back, index_none, index_most, length_near, near_joins, near_none}
 
 -- ---- before the first constraint
 
@@ -61,7 +61,7 @@ rows_size : length rows_start ≡ 15888
 unfolding rows_start
 rows_size = length-replicate {A = ℕ} 15888 65535
 
-all_ones : (b : ℕ) → b < 16 → bit 65535 b ≡ true
+pub all_ones : (b : ℕ) → b < 16 → bit 65535 b ≡ true
 unfolding mask_of
 all_ones b h = bit-mask_of 16 (λ b. true) b h
 
@@ -120,14 +120,18 @@ module _ (f : List ℕ) (fine : verdict_of f ≡ Fine) where
       let z : 16 * get_or index_all (32 * two t + one t) 0 + a ≡ 32 * t + 32 + a = omega arith in
       ap (λ x. get_or rows_all x 0) z ∙ columns_at rows_start f q m t a (omega (arith, rows_size, stand.few)) h g
 
-  row_free : (u a v : ℕ) → u < 32 → a < 16 → v < 32 → constrained_of f u v ≡ false → row_of index_all rows_all u a v ≡ 65535
-  unfolding row_of
-  row_free u a v h g k e =
-      let y : get_or index_all (32 * u + v) 0 ≡ 0 =
+  -- The word of a pair that no constraint joins.
+  index_free : (u v : ℕ) → u < 32 → v < 32 → constrained_of f u v ≡ false → get_or index_all (32 * u + v) 0 ≡ 0
+  index_free u v h k e =
       index_none index_start f q m index_size stand m (32 * u + v)
       (λ t s x. let o = stand.order t s in clash e (constrained_on f fine u v t s (omega (arith, o.0, o.1)) (omega (arith, o.0, o.1))))
       (λ t s x. let o = stand.order t s in clash e (constrained_back f fine u v t s (omega (arith, o.0, o.1)) (omega (arith, o.0, o.1))))
-      ∙ index_zero (32 * u + v) in
+      ∙ index_zero (32 * u + v)
+
+  row_free : (u a v : ℕ) → u < 32 → a < 16 → v < 32 → constrained_of f u v ≡ false → row_of index_all rows_all u a v ≡ 65535
+  unfolding row_of
+  row_free u a v h g k e =
+      let y = index_free u v h k e in
       let z : 16 * get_or index_all (32 * u + v) 0 + a ≡ a = omega arith in
       ap (λ x. get_or rows_all x 0) z ∙ rows_first rows_start f q m a g ∙ rows_ones a (omega arith)
 
@@ -168,7 +172,43 @@ module _ (f : List ℕ) (fine : verdict_of f ≡ Fine) where
     row = λ i a j b h k l t. rw (d, g) (says i a j b h k l t);
   }
 
--- ---- what decoding leaves
+  -- Behind the file's variables: none universal, no neighbours, and block 0.
+  existential : (u : ℕ) → n_of f ≤ u → bit (universal_bits_of f) u ≡ false
+  unfolding universal_bits
+  existential u h = bit_high (n_of f) _ u (mask_of_lt (n_of f) _) h
+
+  blank : (u : ℕ) → n_of f ≤ u → get_or near_all u 0 ≡ 0
+  unfolding near_start
+  blank u h =
+      near_none near_start f q m near_size stand m u
+      (λ t s x. let o = stand.order t s in let b = constraint_below f fine t s in omega (arith, o.0))
+      (λ t s x. let b = constraint_below f fine t s in omega arith)
+      ∙ zeros 32 u
+
+  unnamed : (u v : ℕ) → u < 32 → v < 32 → n_of f ≤ v → (get_or index_all (32 * u + v) 0 ≡ 0) × (get_or index_all (32 * v + u) 0 ≡ 0)
+  unnamed u v h k l = (
+    index_free u v h k (fails λ g. let b = constrained_below f fine u v g in omega arith),
+    index_free v u k h (fails λ g. let b = constrained_below f fine v u g in omega arith),
+  )
+
+-- ---- with all constraints entered
+
+-- What arrays state in which the constraints of two variables stand, and what they leave to more variables and to more constraints.
+pub record BinaryStated (f : List ℕ) (fine : verdict_of f ≡ Fine) (A : Arrays) : Type 0 where
+  pub own : A.own ≡ n_of f
+  pub size : A.n ≡ n_of f
+  pub states : States (problem_of f fine) (n_of f) A
+  pub domain : (problem_of f fine).domain ≡ take (n_of f) A.domains
+  pub existential : (i : ℕ) → n_of f ≤ i → bit A.universal i ≡ false
+  pub inside : (i j : ℕ) → n_of f ≤ j → bit (get_or A.near i 0) j ≡ bit 0 j
+  pub blank : (i : ℕ) → n_of f ≤ i → get_or A.near i 0 ≡ 0
+  pub unnamed : (i j : ℕ) → i < 32 → j < 32 → n_of f ≤ j → (get_or A.index (32 * i + j) 0 ≡ 0) × (get_or A.index (32 * j + i) 0 ≡ 0)
+  pub blocks : (k : ℕ) → get_or A.index k 0 ≤ 2 * m_of f
+  pub ones : (x : ℕ) → x < 16 → get_or A.rows x 0 ≡ 65535
+  pub near_long : length A.near ≡ 32
+  pub index_long : length A.index ≡ 1024
+  pub rows_long : length A.rows ≡ 15888
+  pub domains_long : length A.domains ≡ 32
 
 -- The constraints of an accepted file are fit for entering.
 pub ready : (f : List ℕ) (q m : ℕ) → verdict_of f ≡ Fine → q ≡ constraints_at f → m ≡ m_of f → Constraints f q m
@@ -178,6 +218,39 @@ ready f q m fine x y = rw (x, y) (constraints_stand f fine)
 pub start_in_range : InRange index_start
 start_in_range x = omega (arith, index_zero x)
 
+-- The arrays of a reading, with its file's constraints entered.
+pub entered : (f : List ℕ) (q : ℕ) (r : Reading) (A B : Arrays) → ((k : ℕ) → get_or f k 0 < 256) → (s : Shows f r.head) → r.domains ≡ domains_of f
+    → q ≡ constraints_at f → Unconstrained r A → SameVariables A B
+    → B.near ≡ near_to A.near f q r.head.m → B.index ≡ index_to A.index f q r.head.m → B.rows ≡ rows_to A.rows f q r.head.m
+    → BinaryStated f s.fine B
+entered f q r A B bytes s w x u v e d g =
+    let fine = s.fine in
+    let m = s.constraints in
+    let near : B.near ≡ near_to near_start f (constraints_at f) (m_of f) = rw (u.near, x, m) at e in
+    let index : B.index ≡ index_to index_start f (constraints_at f) (m_of f) = rw (u.index, x, m) at d in
+    let rows : B.rows ≡ rows_to rows_start f (constraints_at f) (m_of f) = rw (u.rows, x, m) at g in
+    let universal : B.universal ≡ universal_bits_of f = v.universal ∙ u.universal ∙ s.bits in
+    let domains : B.domains ≡ domains_of f = v.domains ∙ u.domains ∙ w in
+    let stand = constraints_stand f fine in
+    record {
+      own = v.own ∙ u.own ∙ s.variables;
+      size = v.n ∙ u.n ∙ s.variables;
+      states = stated f fine B universal near index rows;
+      domain = problem_domains f fine bytes ∙ ap (take (n_of f)) (sym domains);
+      existential = λ i h. rw universal (existential f fine i h);
+      inside = λ i j h. rw near (inside f fine i j h);
+      blank = λ i h. rw near (blank f fine i h);
+      unnamed = λ i j h k l. rw index (unnamed f fine i j h k l);
+      blocks = λ k. rw index (index_most index_start f (constraints_at f) (m_of f) index_size stand (m_of f) k (index_zero k));
+      ones = λ x h. rw rows (rows_first rows_start f (constraints_at f) (m_of f) x h ∙ rows_ones x (omega arith));
+      near_long = rw near (length_near near_start f (constraints_at f) (m_of f) near_size stand (m_of f));
+      index_long = rw index (length_index index_start f (constraints_at f) (m_of f) index_size stand (m_of f));
+      rows_long = rw rows (length_rows rows_start f (constraints_at f) (m_of f) ∙ rows_size);
+      domains_long = rw domains (domains-length f fine);
+    }
+
+-- ---- what decoding leaves
+
 -- A refused file.
 pub leaves : (f : List ℕ) (e : Fault) (r : Result Arrays Fault) → verdict_of f ≡ Err e → r ≡ Err e → Decodes f r
 leaves f e r q t = record {
@@ -186,25 +259,20 @@ leaves f e r q t = record {
 }
 
 -- An accepted one is entered whole.
-pub enters : (f : List ℕ) (q : ℕ) (h : Head) (A : Arrays) → ((k : ℕ) → get_or f k 0 < 256) → (s : Shows f h) → q ≡ constraints_at f
-    → A.own ≡ h.n → A.n ≡ h.n → A.universal ≡ h.universal → A.domains ≡ domains_of f
-    → A.near ≡ near_to near_start f q h.m → A.index ≡ index_to index_start f q h.m → A.rows ≡ rows_to rows_start f q h.m
-    → Decodes f (Ok A)
-unfolding ordinary_of
-enters f q h A bytes s x o n u w e d g =
-    let m = s.constraints in
-    let fine = s.fine in
-    let own = problem_domains f fine bytes in
-    record {
-      given = λ B z.
-          subst (FileGiven f) {x = A} (cc) record {
-            fine = fine;
-            size = o ∙ s.variables;
-            poses = record {
-              states = subst (λ k. States (problem_of f fine) k A) (sym (n ∙ s.variables)) (stated f fine A (u ∙ s.bits) (e ∙ ap₂ (near_to near_start f) x m) (d ∙ ap₂ (index_to index_start f) x m) (g ∙ ap₂ (rows_to rows_start f) x m));
-              domain = own ∙ ap₂ (λ (k : ℕ) (l : List ℕ). take k l) (sym (n ∙ s.variables)) (sym w);
-            };
-            domain = own ∙ ap₂ (λ (k : ℕ) (l : List ℕ). take k l) (sym (o ∙ s.variables)) (sym w);
-          };
-      refused = λ k z. absurd (cc);
-    }
+pub enters : (f : List ℕ) (A : Arrays) (fine : verdict_of f ≡ Fine) → BinaryStated f fine A → Decodes f (Ok A)
+enters f A fine b = record {
+  given = λ B z.
+      subst (FileGiven f) {x = A} (cc) record {
+        fine = fine;
+        size = b.own;
+        poses = record {
+          states = subst (λ k. States (problem_of f fine) k A) (sym b.size) b.states;
+          domain = b.domain ∙ ap (λ (k : ℕ). take k A.domains) (sym b.size);
+        };
+      };
+  refused = λ k z. absurd (cc);
+}
+
+-- The arrays given have the file's domains, of their own variables.
+pub given_domain : (f : List ℕ) (A : Arrays) (g : FileGiven f A) → (problem_of f g.fine).domain ≡ take A.own A.domains
+given_domain f A g = g.poses.domain ∙ ap (λ (k : ℕ). take k A.domains) (sym g.poses.states.size ∙ problem_size f g.fine ∙ sym g.size)

@@ -1,20 +1,31 @@
 -- What decoding leaves in the arrays, and what an entry is given by it.
-use Rattle.std.specs.Prelude.{ℕ, ◌≡◌, Result, Ok, Err, List, take}
+use Rattle.std.specs.Prelude.{ℕ, ◌≡◌, Result, Ok, Err, List}
 use Rattle.solver_arrays.specs.declared.arrays.Arrays.{Arrays}
 use Rattle.solver_arrays.specs.Arrays.{Poses}
 use Rattle.refusal.specs.declared.reason.Fault.{Fault}
 use Rattle.refusal.specs.Chain.{Fine}
 use Rattle.file_reader.specs.Reading.{n_of, verdict_of}
-use Rattle.file_decoder.specs.FileProblem.{problem_of, ordinary_of}
+use Rattle.file_reader.specs.declared.Reading.{Reading}
+use Rattle.file_decoder.specs.FileProblem.{problem_of}
+use Rattle.file_decoder.specs.Tables.{near_start, index_start, rows_start}
 
--- An accepted file f and its arrays A, of which the file's own variables are to play, with its domains.
+-- An accepted file f and its arrays A, which state its problem of constraints of two variables.
 pub record FileGiven (f : List ℕ) (A : Arrays) : Type 0 where
   pub fine : verdict_of f ≡ Fine
   pub size : A.own ≡ n_of f
-  pub poses : Poses (ordinary_of f fine) A
-  pub domain : (problem_of f fine).domain ≡ take A.own A.domains
+  pub poses : Poses (problem_of f fine) A
 
 -- The reply r of decoding f: an accepted file is given, a refused one tells why and where.
 pub record Decodes (f : List ℕ) (r : Result Arrays Fault) : Type 0 where
   pub given : (A : Arrays) → r ≡ Ok A → FileGiven f A
   pub refused : (e : Fault) → r ≡ Err e → verdict_of f ≡ Err e
+
+-- The arrays A have the variables of a reading, and no constraint is entered yet.
+pub record Unconstrained (r : Reading) (A : Arrays) : Type 0 where
+  pub own : A.own ≡ r.head.n
+  pub n : A.n ≡ r.head.n
+  pub universal : A.universal ≡ r.head.universal
+  pub domains : A.domains ≡ r.domains
+  pub near : A.near ≡ near_start
+  pub index : A.index ≡ index_start
+  pub rows : A.rows ≡ rows_start

@@ -4,7 +4,8 @@ use Rattle.refusal.specs.declared.reason.Fault.{Fault}
 use Rattle.refusal.specs.Chain.{Verdict, Fine}
 use Rattle.file_reader.specs.Reading.{verdict_of}
 use Rattle.game.specs.Problem.{Problem}
-use Rattle.file_decoder.specs.FileProblem.{problem_of, ordinary_of}
+use Rattle.game.specs.Ternary.{TernaryProblem}
+use Rattle.file_decoder.specs.FileProblem.{problem_of, ternary_of, ordinary_of}
 
 module _ {A : Type 0} (f : List ℕ) (refusal : Fault → A) where
   unfoldable pub read_as : (verdict_of f ≡ Fine → A) → (v : Verdict) → verdict_of f ≡ v → A
@@ -14,9 +15,12 @@ module _ {A : Type 0} (f : List ℕ) (refusal : Fault → A) where
   unfoldable pub read_by : (verdict_of f ≡ Fine → A) → A
   read_by reply = read_as reply (verdict_of f) refl
 
-  -- On to the file's problem, and to the problem that the solver is handed.
+  -- On to the file's problem, of constraints of two variables; to that with its three-way constraints; and to the ordinary problem, which the solver is handed.
   abbrev pub read_first : (Problem → A) → A
   read_first reply = read_by (λ fine. reply (problem_of f fine))
+
+  abbrev pub read_ternary : (TernaryProblem → A) → A
+  read_ternary reply = read_by (λ fine. reply (ternary_of f fine))
 
   abbrev pub read_ordinary : (Problem → A) → A
   read_ordinary reply = read_by (λ fine. reply (ordinary_of f fine))

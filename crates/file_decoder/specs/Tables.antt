@@ -29,6 +29,10 @@ linked l i j = added (added l i j) j i
 unfoldable pub numbered : List ℕ → ℕ → ℕ → ℕ → List ℕ
 numbered l i j t = set (set l (32 * i + j) (2 * t + 1)) (32 * j + i) (2 * t + 2)
 
+-- The blocks of constraint t: its rows from the lower variable towards the higher, and back.
+unfoldable pub blocks : List ℕ → ℕ → (ℕ → ℕ) → (ℕ → ℕ) → List ℕ
+blocks l t row column = put_to (put_to l (32 * t + 16) row 16) (32 * t + 32) column 16
+
 -- Constraint t entered.
 unfoldable pub near_with : List ℕ → List ℕ → ℕ → ℕ → List ℕ
 near_with l f q t = linked l (constraint_one f q t) (constraint_two f q t)
@@ -37,7 +41,7 @@ unfoldable pub index_with : List ℕ → List ℕ → ℕ → ℕ → List ℕ
 index_with l f q t = numbered l (constraint_one f q t) (constraint_two f q t) t
 
 unfoldable pub rows_with : List ℕ → List ℕ → ℕ → ℕ → List ℕ
-rows_with l f q t = put_to (put_to l (32 * t + 16) (constraint_row f q t) 16) (32 * t + 32) (column_of f q t) 16
+rows_with l f q t = blocks l t (constraint_row f q t) (column_of f q t)
 
 -- The first k constraints entered.
 unfoldable pub near_to : List ℕ → List ℕ → ℕ → ℕ → List ℕ

@@ -10,7 +10,7 @@ use native.Mathlib.Omega.{arith}
 use borrow.Author.Tests.{le-leb, lt-leb}
 use Rattle.mask.proofs.Logic.{by_lt}
 use Rattle.file_layout.specs.Numbers.{pair_of}
-use Rattle.file_layout.specs.Layout.{word, marked, opened, RS, variables_at, domain_at, row_at, pair_at, constraints_at, after_constraints, end_at}
+use Rattle.file_layout.specs.Layout.{word, marked, opened, RS, variables_at, domain_at, row_at, pair_at, constraints_at, after_constraints, number_at, body_at}
 
 pub record SameFront (k : ℕ) (f g : List ℕ) : Type 0 where
   pub bytes : (p : ℕ) → p < k → get_or f p 0 ≡ get_or g p 0
@@ -54,9 +54,9 @@ module _ (k : ℕ) (f g : List ℕ) (s : SameFront k f g) where
   unfolding constraints_at
   constraints_at_front h = ap₂ (λ (b n : ℕ). b + 4 * n) (start_front h) (s.bytes 2 (omega arith))
 
-  pub end_at_front : 7 ≤ k → end_at f ≡ end_at g
-  unfolding end_at after_constraints
-  end_at_front h = ap₂ (λ (q m : ℕ). q + 36 * m) (constraints_at_front h) (word_front 3 (omega arith))
+  pub after_front : 7 ≤ k → after_constraints f ≡ after_constraints g
+  unfolding after_constraints
+  after_front h = ap₂ (λ (q m : ℕ). q + 36 * m) (constraints_at_front h) (word_front 3 (omega arith))
 
   pub domain_front : (b i : ℕ) → b + 4 * i + 4 ≤ k → domain_at f b i ≡ domain_at g b i
   unfolding domain_at
@@ -69,3 +69,11 @@ module _ (k : ℕ) (f g : List ℕ) (s : SameFront k f g) where
   pub pair_front : (p : ℕ) → p + 4 ≤ k → pair_at f p ≡ pair_at g p
   unfolding pair_at
   pair_front p h = ap₂ pair_of (s.bytes (p + 2) (omega arith)) (s.bytes (p + 3) (omega arith))
+
+  pub number_front : (p x : ℕ) → p + 3 + x ≤ k → number_at f p x ≡ number_at g p x
+  unfolding number_at
+  number_front p x h = s.bytes (p + 2 + x) (omega arith)
+
+  pub body_front : (p : ℕ) → p + 6 ≤ k → body_at f p ≡ body_at g p
+  unfolding body_at
+  body_front p h = ap (λ (c : ℕ). 4 + 3 * c) (number_front p 3 (omega arith))

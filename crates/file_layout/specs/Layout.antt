@@ -1,5 +1,5 @@
 -- What stands where in a problem file. The layout is fixed, so every value is read by its place; a byte past the end is 0.
-use Rattle.std.specs.Prelude.{ℕ, ◌+◌, ◌*◌, Bool, cond, ◌&&◌, List, [], ◌∷◌, length, get_or, leb, eqb, Option, Some, None}
+use Rattle.std.specs.Prelude.{ℕ, zero, suc, ◌+◌, ◌*◌, Bool, cond, ◌&&◌, List, [], ◌∷◌, length, get_or, leb, eqb, Option, Some, None}
 use Rattle.refusal.specs.declared.reason.Reason.TheVariants.{Short, Mark}
 use Rattle.refusal.specs.Reason.{◌at◌}
 use Rattle.refusal.specs.Chain.{Verdict, ◌then◌, need}
@@ -27,6 +27,9 @@ VA = 86 ∷ 65 ∷ []
 
 abbrev pub CT : List ℕ
 CT = 67 ∷ 84 ∷ []
+
+abbrev pub TT : List ℕ
+TT = 84 ∷ 84 ∷ []
 
 abbrev pub EN : List ℕ
 EN = 69 ∷ 78 ∷ []
@@ -84,6 +87,29 @@ constraints_at f = variables_at f + 4 * n_of f
 unfoldable pub after_constraints : List ℕ → ℕ
 after_constraints f = constraints_at f + 36 * m_of f
 
+-- `TT`: "bytes i < j < k < n, a count of 1 to 16, and that many good triples .. three bytes each". Number x of the record at p, and how long its body is: "4
+-- bytes and 3 more for each triple counted, even where the count is wrong".
+unfoldable pub number_at : List ℕ → ℕ → ℕ → ℕ
+number_at f p x = byte f (p + 2 + x)
+
+unfoldable pub body_at : List ℕ → ℕ → ℕ
+body_at f p = 4 + 3 * number_at f p 3
+
+-- The place of record q of those that stand one behind another from p on.
+unfoldable pub ternary_at : List ℕ → ℕ → ℕ → ℕ
+ternary_at f p zero = p
+ternary_at f p (suc q) = ternary_at f p q + 2 + body_at f (ternary_at f p q)
+
+-- How many marks `TT` stand in a row from p on, each behind the record before it; no more than k are counted.
+unfoldable pub leading : List ℕ → ℕ → ℕ → ℕ
+leading f p zero = 0
+leading f p (suc k) = cond (marked f p TT) (suc (leading f (p + 2 + body_at f p) k)) 0
+
+-- `TT` stands "after the last `CT`", and "Only `EN` follows them". Variables and records
+-- together are at most 32, so no more than 33 need be counted.
+unfoldable pub t_of : List ℕ → ℕ
+t_of f = leading f (after_constraints f) 33
+
 -- The place behind the last record before `EN`.
 unfoldable pub end_at : List ℕ → ℕ
-end_at f = after_constraints f
+end_at f = ternary_at f (after_constraints f) (t_of f)

@@ -14,7 +14,7 @@ pub struct FileRecord<'a> {
 }
 
 impl<'a> FileRecord<'a> {
-    ghost use Rattle.file_layout.specs.Layout.{word, marked, opened, pair_at};
+    ghost use Rattle.file_layout.specs.Layout.{word, marked, opened, pair_at, number_at, body_at};
 
     // How every record begins: room for a mark, a mark that may stand here, a whole body of k bytes.
     pub fn opened(&self, right: bool, k: usize) -> Result<(), Fault>
@@ -52,6 +52,22 @@ impl<'a> FileRecord<'a> {
         ensures { result ≡ word self.now.file.now (self.now.place + k) }
     {
         word_at(self.file, self.place + k)
+    }
+
+    // Number x of a three-way constraint.
+    #[tactic(auto, unfolding(crate::specs::Layout::number_at))]
+    pub fn number(&self, x: usize) -> usize
+        requires { x ≤ 700 }
+        ensures { (result ≡ number_at self.now.file.now self.now.place x) × (result < 256) }
+    {
+        byte_at(self.file, self.place + 2 + x)
+    }
+
+    // How long the body of a three-way constraint is.
+    pub fn body(&self) -> usize
+        ensures { (result ≡ body_at self.now.file.now self.now.place) × (result ≤ 769) }
+    {
+        4 + 3 * self.number(3)
     }
 
     // The pair of a constraint as one number.

@@ -10,6 +10,6 @@ mod variables;
 
 pub use bytes::{byte_at, word_at};
 pub use file_record::FileRecord;
-pub use numbers::{constraint_fits, counts_fit, in_order, pair_of};
+pub use numbers::{constraint_fits, counts_fit, in_order, pair_of, scope_of, ternary_fits};
 pub use places::{rules_at, variables_at};
 pub use variables::Variables;

@@ -9,7 +9,7 @@ use lib.ListN.{length, take, drop}
 use lib.Dec.{eqb}
 use native.Mathlib.Omega.{arith}
 use native.Mathlib.Nat.{eq-or-lt_of_le, le_of_suc-le-suc}
-use borrow.Author.Tests.{eqb-true, eqb-false, eq-eqb, ne_eqb, le-leb, lt-leb}
+use borrow.Author.Tests.{eqb-true, eqb-false, eq-eqb, ne_eqb}
 use Rattle.std.specs.Prelude.{Result, Ok, Err, Option, None, Some}
 use Rattle.refusal.specs.declared.reason.Fault.{Fault}
 use Rattle.refusal.specs.declared.reason.Refusal.{Refusal}
@@ -21,6 +21,7 @@ use Rattle.file_layout.specs.Numbers.{in_order, pair_of}
 use Rattle.file_layout.proofs.NumberLaws.{order_out, order_in}
 use Rattle.file_records.specs.Records.{last_pair, verdict_of}
 use Rattle.file_reader.proofs.Accepted.{accepted}
+use Rattle.file_lookup.proofs.PartLaws.{part_there}
 use Rattle.file_lookup.specs.Lookup.{told, place_to, pair_place, look_for, look_up, rows_at, rows_of}
 
 -- ---- among the first k constraints from q
@@ -184,14 +185,6 @@ module _ (f : List ℕ) (fine : verdict_of f ≡ Fine) where
 
 -- ---- the part of the file
 
-pub rows_short : (f : List ℕ) (p : ℕ) → length f < p + 32 → rows_at f p ≡ []
-unfolding rows_at
-rows_short f p h = rw (lt-leb _ _ h)
-
-pub rows_there : (f : List ℕ) (p : ℕ) → p + 32 ≤ length f → take (p + 32 - p) (drop p f) ≡ rows_at f p
-unfolding rows_at
-rows_there f p h = let e : p + 32 - p ≡ 32 = omega arith in rw (e, le-leb _ _ h)
-
 pub rows_of_lem : (r : Result (Option ℕ) Refusal) (f : List ℕ) (p : ℕ) → r ≡ Ok (Some p) → rows_of r f ≡ rows_at f p
 unfolding rows_of
 rows_of_lem r f p q = rw q
@@ -205,4 +198,4 @@ told_rows (Err (InCall d)) p e = cc
 -- An answer of the look-up that has rows shows the 32 bytes at their place.
 pub found_rows : (f : List ℕ) (i j p : ℕ) (r : Result (Option ℕ) Refusal) → told r ≡ look_up f i j → look_up f i j ≡ replied (p ∷ []) → rows_of r f ≡ take 32 (drop p f)
 unfolding rows_at
-found_rows f i j p r e q = rows_of_lem r f p (told_rows r p (e ∙ q)) ∙ rw (le-leb _ _ (found_within f i j p q))
+found_rows f i j p r e q = rows_of_lem r f p (told_rows r p (e ∙ q)) ∙ part_there f p 32 (found_within f i j p q)

@@ -5,11 +5,11 @@ use mathlib.Core.Bool.{Bool, true, false}
 use mathlib.Core.List.{List, [], ◌∷◌, ◌++◌, append-nil}
 use mathlib.Core.Logic.{⊎_elim}
 use lib.ListN.{length, get_or, length-append, get_or-append}
-use lib.Seq.{get_or-append-add, get_or-take, get_or-drop}
+use lib.Seq.{get_or-append-add}
 use native.Mathlib.Omega.{arith}
 use native.Mathlib.Nat.{eq-or-lt_of_le, le_of_suc-le-suc}
 use lib.Dec.{ltb}
-use borrow.Author.Tests.{le-leb, ltb-true, ltb-false}
+use borrow.Author.Tests.{ltb-true, ltb-false}
 use Rattle.refusal.specs.Chain.{Fine}
 use Rattle.refusal.specs.Told.{Told, replied, refused, refused_at}
 use Rattle.file_layout.specs.Layout.{word, m_of, one_at, two_at, row_at, pair_at, constraints_at}
@@ -17,6 +17,7 @@ use Rattle.file_layout.specs.Numbers.{pair_of}
 use Rattle.file_records.specs.Records.{verdict_of}
 use Rattle.file_reader.proofs.Accepted.{accepted}
 use Rattle.file_lookup.specs.Lookup.{look_up, rows_at, words_to, showing, shown_to, constraints_shown, rows_to, numbers_at, numbers_to}
+use Rattle.file_lookup.proofs.PartLaws.{part_byte}
 use Rattle.file_lookup.proofs.Lookup.{look_at, look_finds, ascend}
 
 -- ---- the numbers of the constraints, one by one
@@ -86,10 +87,8 @@ module _ (f : List ℕ) (k t : ℕ) (h : t < k) where
 pub word-shown : (f : List ℕ) (p a : ℕ) → p + 32 ≤ length f → a < 16 → word (rows_at f p) (2 * a) ≡ word f (p + 2 * a)
 unfolding word rows_at
 word-shown f p a h l =
-    let x : 2 * a < 32 = omega arith in
-    let y : 2 * a + 1 < 32 = omega arith in
     let z : p + (2 * a + 1) ≡ p + 2 * a + 1 = omega arith in
-    rw (le-leb _ _ h) (simp (get_or-take, get_or-drop, z))
+    rw (part_byte f p 32 (2 * a) h (omega arith), part_byte f p 32 (2 * a + 1) h (omega arith), z) refl
 
 rows_shown : (f : List ℕ) (p k : ℕ) → p + 36 ≤ length f → k ≤ 16 → words_to (rows_at f (p + 4)) k ≡ rows_to f p k
 unfolding words_to rows_to row_at

@@ -1,11 +1,12 @@
 -- What a look-up of a pair tells and shows. A file's refusal comes first, with its place; then 11 for a pair that is not i < j < n.
-use Rattle.std.specs.Prelude.{ℕ, zero, suc, ◌+◌, ◌*◌, ◌/◌, ◌%◌, cond, List, [], ◌∷◌, ◌++◌, length, take, drop, leb, eqb, Result, Ok, Err, Option, None, Some}
+use Rattle.std.specs.Prelude.{ℕ, zero, suc, ◌+◌, ◌*◌, ◌/◌, ◌%◌, cond, List, [], ◌∷◌, ◌++◌, eqb, Result, Ok, Err, Option, None, Some}
 use Rattle.refusal.specs.declared.reason.Refusal.{Refusal}
 use Rattle.refusal.specs.Chain.{Verdict}
 use Rattle.refusal.specs.Told.{Told, replied, refused, refused_at, fault_told, refusal_told, told_by, listed}
 use Rattle.file_layout.specs.Layout.{word, n_of, m_of, one_at, two_at, row_at, pair_at, constraints_at}
 use Rattle.file_layout.specs.Numbers.{in_order, pair_of}
 use Rattle.file_records.specs.Records.{verdict_of}
+use Rattle.file_lookup.specs.Part.{part_at}
 
 -- Each case of the answer in document 01's numbers.
 abbrev pub told : Result (Option ℕ) Refusal → Told
@@ -27,9 +28,9 @@ look_for (Err e) f i j = fault_told e
 unfoldable pub look_up : List ℕ → ℕ → ℕ → Told
 look_up f i j = look_for (verdict_of f) f i j
 
--- The 32 bytes at p, where the file has them.
+-- The 32 row bytes at p.
 unfoldable pub rows_at : List ℕ → ℕ → List ℕ
-rows_at f p = cond (leb (p + 32) (length f)) (take 32 (drop p f)) []
+rows_at f p = part_at f p 32
 
 -- The part of the file that an answer shows.
 unfoldable pub rows_of : Result (Option ℕ) Refusal → List ℕ → List ℕ

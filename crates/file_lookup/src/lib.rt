@@ -1,15 +1,21 @@
-// The look-up of a pair of variables in a problem file: where its constraint's 16 rows stand. It rests on `file_reader` and
-// `file_layout`. `look_up` and `rows` are open to callers. Rows are shown as a part of the caller's file, so nothing is copied.
+// The look-ups in a problem file: where the 16 rows of a pair's constraint stand, and the body of a three-way constraint by its place. It
+// rests on `file_reader` and `file_layout`, and its laws on `buffer`. `look_up`, `rows`, `look_up_ternary` and `body_bytes` are open to
+// callers. What is found is shown as a part of the caller's file, so nothing is copied.
 #![tactic(auto)]
 
 ghost use Rattle.std.specs.Prelude.{◌≡◌, ◌≤◌, ◌<◌};
 ghost use Rattle.refusal.specs.Told.{replied, listed};
 ghost use Rattle.file_layout.specs.Numbers.{pair_of};
-ghost use Rattle.file_lookup.specs.Lookup.{told, place_to, look_up, rows_at, rows_of};
+ghost use Rattle.file_lookup.specs.Lookup.{told, place_to, look_up, rows_of};
+
+mod part;
+mod ternary;
 
 use file_layout::{FileRecord, in_order, pair_of, word_at};
-use file_reader::variables_of;
+use file_reader::parts_of;
+use part::part_at;
 use refusal::{Reason, Refusal, needed};
+pub use ternary::{Body, body_bytes, look_up_ternary};
 
 // The look-up in a file that is known to be accepted, with m constraints from q: it does not read the file again.
 fn find(f: &[u8], q: usize, m: usize, i: usize, j: usize) -> Option<usize>
@@ -31,20 +37,11 @@ fn find(f: &[u8], q: usize, m: usize, i: usize, j: usize) -> Option<usize>
 pub fn look_up(f: &[u8], i: usize, j: usize) -> Result<Option<usize>, Refusal>
     ensures { told result ≡ look_up f.now i j }
 {
-    let v = variables_of(f)?;
+    let parts = parts_of(f)?;
+    let v = parts.variables;
     let m = word_at(f, 3) as usize;
     needed(in_order(i, j, v.n), Reason::Variable)?;
     Ok(find(f, v.end(), m, i, j))
-}
-
-// The 32 bytes at p, or the empty part where the file has not so many.
-fn rows_at<'a>(f: &'a [u8], p: usize) -> &'a [u8]
-    ensures { result.now ≡ rows_at f.now p }
-{
-    if f.len() < 32 || f.len() - 32 < p {
-        return &f[0..0];
-    }
-    &f[p..p + 32]
 }
 
 // The 32 row bytes of what a look-up of this file found, as a part of it; the empty part for any other answer.
@@ -52,7 +49,7 @@ pub fn rows<'a>(f: &'a [u8], found: Result<Option<usize>, Refusal>) -> &'a [u8]
     ensures { result.now ≡ rows_of found f.now }
 {
     match found {
-        Ok(Some(p)) => rows_at(f, p),
+        Ok(Some(p)) => part_at(f, p, 32),
         Ok(None) => &f[0..0],
         Err(_) => &f[0..0],
     }

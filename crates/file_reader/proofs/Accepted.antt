@@ -19,11 +19,11 @@ use Rattle.refusal.proofs.Chain.{then_fine, then_ok}
 use Rattle.refusal.proofs.Numbers.{fault_one}
 use Rattle.rule_set.specs.RuleSet.{is_rule_set}
 use Rattle.file_reader.specs.declared.Head.{Head}
-use Rattle.file_layout.specs.Layout.{byte, word, marked, EN, n_of, m_of, has_rules, rules_of, variables_at, domain_at, universal_at, constraints_at, end_at}
-use Rattle.file_records.specs.Records.{last_pair, rest_test, verdict_of}
+use Rattle.file_layout.specs.Layout.{byte, word, marked, EN, n_of, m_of, has_rules, rules_of, variables_at, domain_at, universal_at, constraints_at, after_constraints, ternary_at, t_of, end_at}
+use Rattle.file_records.specs.Records.{last_pair, last_scope, rest_test, verdict_of}
 use Rattle.file_reader.specs.Reading.{rule_numbers, header_numbers, domain_of, universal_of, universal_bits, universal_bits_of, domains_to, head_of, header_for, domains_for, header_of, domains_of}
-use Rattle.file_layout.proofs.LayoutLaws.{end_is}
-use Rattle.file_records.proofs.RecordLaws.{HeadRecord, Variable, Constraint, qp_out, qp_in, rs_out, rs_in, variables_out, variables_in_lem, constraints_out, constraints_in_lem, en_out, en_in}
+use Rattle.file_records.proofs.RecordLaws.{HeadRecord, Variable, Constraint, Ternary, qp_out, qp_in, rs_out, rs_in, variables_out, variables_in_lem, constraints_out, constraints_in_lem, en_out, en_in}
+use Rattle.file_records.proofs.RecordLaws.{ternaries_out, ternaries_in_lem, ternaries_few, end_most}
 
 -- What holds of an accepted file.
 pub record Accepted (f : List ℕ) : Type 0 where
@@ -31,6 +31,7 @@ pub record Accepted (f : List ℕ) : Type 0 where
   pub rules : has_rules f ≡ true → (8 ≤ length f) × (is_rule_set (byte f 7) ≡ true)
   pub variable : (i : ℕ) → i < n_of f → Variable f (variables_at f + 4 * i)
   pub constraint : (t : ℕ) → t < m_of f → Constraint f (variables_at f) (n_of f) (last_pair f (constraints_at f) t) (constraints_at f + 36 * t)
+  pub ternary : (k : ℕ) → k < t_of f → Ternary f (variables_at f) (n_of f) (last_scope f (after_constraints f) k) k (ternary_at f (after_constraints f) k)
   pub size : length f ≡ end_at f + 2
   pub ends : marked f (end_at f) EN ≡ true
 
@@ -41,12 +42,14 @@ accepted f q =
     let b = then_fine _ _ a.1 in
     let v = then_fine _ _ b.1 in
     let t = then_fine _ _ v.1 in
-    let e = en_out _ _ t.1 in
+    let r = then_fine _ _ t.1 in
+    let e = en_out _ _ r.1 in
     record {
       head = qp_out f a.0;
       rules = rs_out f b.0;
       variable = variables_out _ _ _ v.0;
       constraint = constraints_out _ _ _ _ _ t.0;
+      ternary = ternaries_out _ _ _ _ _ r.0;
       size = e.0;
       ends = e.1;
     }
@@ -57,7 +60,8 @@ accept f a =
     then_ok _ _ (qp_in f a.head)
     (then_ok _ _ (rs_in f (has_rules f) refl a.rules)
     (then_ok _ _ (variables_in_lem f _ _ a.variable)
-    (then_ok _ _ (constraints_in_lem f _ _ _ _ a.constraint) (en_in f _ a.size a.ends))))
+    (then_ok _ _ (constraints_in_lem f _ _ _ _ a.constraint)
+    (then_ok _ _ (ternaries_in_lem f _ _ _ _ a.ternary) (en_in f _ a.size a.ends)))))
 
 -- "n, choices, 1 to 32".
 pub variables-some : (f : List ℕ) → verdict_of f ≡ Fine → 1 ≤ n_of f
@@ -66,9 +70,19 @@ variables-some f v = (accepted f v).head.counts.some
 pub variables_most : (f : List ℕ) → verdict_of f ≡ Fine → n_of f ≤ 32
 variables_most f v = (accepted f v).head.counts.most
 
--- "The length is 7 + 4n + 36m, plus 3 with `RS`."
-pub file-length : (f : List ℕ) → Accepted f → length f ≡ variables_at f + 4 * n_of f + 36 * m_of f + 2
-file-length f a = a.size ∙ ap (λ (e : ℕ). e + 2) (end_is f)
+-- "Choices and records together number at most 32."
+pub variables_and_ternaries : (f : List ℕ) → verdict_of f ≡ Fine → n_of f + t_of f ≤ 32
+variables_and_ternaries f v =
+    let a = accepted f v in ternaries_few f _ _ _ _ a.head.counts.most (ternaries_in_lem f _ _ _ _ a.ternary)
+
+-- "The length is 7 + 4n + 36m, plus 3 with `RS`", and the records `TT`.
+pub file-length : (f : List ℕ) → Accepted f → length f ≡ ternary_at f (variables_at f + 4 * n_of f + 36 * m_of f) (t_of f) + 2
+unfolding end_at after_constraints constraints_at
+file-length f a = a.size
+
+-- `EN` begins nowhere behind 17,992.
+pub accepted_end : (f : List ℕ) → Accepted f → end_at f ≤ 17992
+accepted_end f a = end_most f a.head.counts (ternaries_in_lem f _ _ _ _ a.ternary)
 
 -- ---- what a reading shows
 
@@ -91,6 +105,7 @@ pub record Shows (f : List ℕ) (h : Head) : Type 0 where
   pub fine : verdict_of f ≡ Fine
   pub variables : h.n ≡ n_of f
   pub constraints : h.m ≡ m_of f
+  pub ternaries : h.t ≡ t_of f
   pub set : h.rules ≡ rules_of f
   pub bits : h.universal ≡ universal_bits_of f
 
@@ -103,14 +118,18 @@ header_shows f h e = go (verdict_of f) refl (e ∙ header_is f (verdict_of f) re
       fine = q;
       variables = cc;
       constraints = cc;
+      ternaries = cc;
       set = rules_same _ _ (cc);
       bits = cc;
     }
     go (Err d) q e = cc
 
+pub shown_counts : {f : List ℕ} {h : Head} → Shows f h → (0 < h.n) × (h.n ≤ 32)
+shown_counts {f} {h} s = (omega (arith, s.variables, variables-some f s.fine), omega (arith, s.variables, variables_most f s.fine))
+
 pub head_is : (f : List ℕ) (h : Head) → Shows f h → h ≡ head_of f
 unfolding head_of
-head_is f h s = rw (← s.bits, ← s.set, ← s.constraints, ← s.variables)
+head_is f h s = rw (← s.bits, ← s.set, ← s.ternaries, ← s.constraints, ← s.variables)
 
 pub header_refuses : (f : List ℕ) (e : Fault) → fault_told e ≡ header_of f → verdict_of f ≡ Err e
 unfolding header_for

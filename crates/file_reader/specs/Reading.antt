@@ -1,5 +1,6 @@
--- What reading tells: of an accepted file n, m, the rule set or none, the universal bits and the domains; else the number and the
--- place, "Nothing else is returned". The crates above name a file's numbers and its verdict by what this module passes on.
+-- What reading tells: of an accepted file n, m, the number of `TT` records (document 02, card 7), the rule set or none, the universal bits
+-- and the domains; else the number and the place, "Nothing else is returned". The crates above name a file's numbers and its verdict by what
+-- this module passes on.
 use Rattle.std.specs.Prelude.{ℕ, zero, suc, min, Bool, List, ◌∷◌, set, replicate, Result, Ok, Err, Option}
 use Rattle.mask.specs.Mask.{mask_of}
 use Rattle.refusal.specs.declared.reason.Fault.{Fault}
@@ -8,7 +9,7 @@ use Rattle.refusal.specs.Told.{Told, replied, fault_told, told_by, listed}
 use Rattle.file_reader.specs.declared.Head.{Head}
 use Rattle.file_reader.specs.declared.Reading.{Reading}
 use Rattle.file_layout.specs.Layout.{rules_of, variables_at, domain_at, universal_at}
-pub use Rattle.file_layout.specs.Layout.{n_of, m_of}
+pub use Rattle.file_layout.specs.Layout.{n_of, m_of, t_of}
 pub use Rattle.file_records.specs.Records.{verdict_of}
 
 -- The rule set's number, if there is one.
@@ -17,7 +18,7 @@ rule_numbers = listed
 
 -- The numbers of a header.
 unfoldable pub header_numbers : Head → List ℕ
-header_numbers h = h.n ∷ h.m ∷ h.universal ∷ rule_numbers h.rules
+header_numbers h = h.n ∷ h.m ∷ h.t ∷ h.universal ∷ rule_numbers h.rules
 
 -- Each case of the answer in document 01's numbers, and the domains that it shows.
 abbrev pub told : Result Reading Fault → Told
@@ -50,7 +51,7 @@ domains_to f b (suc k) = set (domains_to f b k) k (domain_at f b k)
 
 -- The numbers of a file.
 unfoldable pub head_of : List ℕ → Head
-head_of f = record { n = n_of f; m = m_of f; rules = rules_of f; universal = universal_bits_of f }
+head_of f = record { n = n_of f; m = m_of f; t = t_of f; rules = rules_of f; universal = universal_bits_of f }
 
 unfoldable pub header_for : Verdict → List ℕ → Told
 header_for (Ok u) f = replied (header_numbers (head_of f))

@@ -2,33 +2,39 @@
 ghost use Rattle.std.specs.Prelude.{◌≡◌, IfOk};
 ghost use Rattle.refusal.specs.Chain.{Fine};
 ghost use Rattle.file_records.specs.Records.{qp_test, rest_test, verdict_of};
-ghost use Rattle.file_records.specs.Tested.{tested, VariablesOf};
+ghost use Rattle.file_records.specs.Tested.{tested};
+ghost use Rattle.file_reader.specs.Parts.{PartsOf};
 
-use file_layout::{FileRecord, Variables, word_at};
-use file_records::{constraints_test, en_test, qp_test, rs_test, variables_test};
+use crate::parts::Parts;
+use file_layout::{FileRecord, word_at};
+use file_records::{constraints_test, en_test, qp_test, rs_test, ternaries_test, variables_test};
 use refusal::Fault;
 
 // The records behind a QP that is fine, but for RS.
-fn rest_test<'a>(f: &'a [u8]) -> Result<Variables<'a>, Fault>
+fn rest_test<'a>(f: &'a [u8]) -> Result<Parts<'a>, Fault>
     requires { qp_test f.now ≡ Fine }
     ensures verdict { tested result ≡ rest_test f.now }
-    ensures shows { IfOk result (VariablesOf f.now) }
+    ensures shows { IfOk result (PartsOf f.now) }
 {
-    let v = variables_test(f)?;
+    let variables = variables_test(f)?;
     let m = word_at(f, 3) as usize;
-    constraints_test(&v, m)?;
+    constraints_test(&variables, m)?;
+    let ternaries = ternaries_test(&variables, variables.end() + 36 * m)?;
     let end = FileRecord {
         file: f,
-        place: v.end() + 36 * m,
+        place: ternaries.end,
     };
     en_test(&end)?;
-    Ok(v)
+    Ok(Parts {
+        variables,
+        ternaries,
+    })
 }
 
-// The variables of an accepted file, and else why it is refused and where. For file_lookup too.
-pub fn variables_of<'a>(f: &'a [u8]) -> Result<Variables<'a>, Fault>
+// The parts of an accepted file, and else why it is refused and where. For file_lookup too.
+pub fn parts_of<'a>(f: &'a [u8]) -> Result<Parts<'a>, Fault>
     ensures verdict { tested result ≡ verdict_of f.now }
-    ensures shows { IfOk result (VariablesOf f.now) }
+    ensures shows { IfOk result (PartsOf f.now) }
 {
     qp_test(f)?;
     let rules = rs_test(f);

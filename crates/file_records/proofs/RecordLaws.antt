@@ -11,10 +11,11 @@ use borrow.Author.Tests.{leb-true, le-leb, eqb-false, ne_eqb, not-true}
 use Rattle.refusal.specs.Chain.{Fine}
 use Rattle.refusal.proofs.Chain.{then_fine, need_fine, then_ok, need_ok, so, not_so, placed_fine, placed_ok}
 use Rattle.rule_set.specs.RuleSet.{is_rule_set}
-use Rattle.file_layout.specs.Layout.{byte, word, marked, QP, VE, VA, CT, EN, n_of, m_of, has_rules, domain_at, one_at, two_at, row_at}
-use Rattle.file_layout.proofs.LayoutLaws.{opened_out, opened_in}
-use Rattle.file_records.specs.Records.{qp_test, rs_test, variable_test, variables_test, constraint_test, last_pair, constraints_test, en_test}
-use Rattle.file_layout.proofs.NumberLaws.{Counts, counts_out, counts_in, Fits, fits_out, fits_in_lem}
+use Rattle.file_layout.specs.Layout.{byte, word, marked, QP, VE, VA, CT, EN, n_of, m_of, has_rules, variables_at, domain_at, one_at, two_at, row_at, after_constraints}
+use Rattle.file_layout.specs.Layout.{number_at, body_at, ternary_at, t_of, end_at}
+use Rattle.file_layout.proofs.LayoutLaws.{opened_out, opened_in, after_most}
+use Rattle.file_records.specs.Records.{qp_test, rs_test, variable_test, variables_test, constraint_test, last_pair, constraints_test, ternary_test, last_scope, ternaries_test, en_test}
+use Rattle.file_layout.proofs.NumberLaws.{Counts, counts_out, counts_in, Fits, fits_out, fits_in_lem, TernaryFits, ternary_out, ternary_in}
 
 -- QP.
 pub record HeadRecord (f : List ℕ) : Type 0 where
@@ -119,6 +120,65 @@ unfolding constraints_test
 constraints_in_lem f b n q zero v = refl
 constraints_in_lem f b n q (suc k) v =
     then_ok _ _ (constraints_in_lem f b n q k (λ t h. v t (omega arith))) (constraint_in _ _ _ _ _ (v k (omega arith)))
+
+-- TT: record k at p, of a file of n variables from b, behind a record of the three variables last.
+pub record Ternary (f : List ℕ) (b n last k p : ℕ) : Type 0 where
+  pub within : p + 2 + body_at f p ≤ length f
+  pub few : n + k + 1 ≤ 32
+  pub fits : TernaryFits (domain_at f b) n last (number_at f p)
+
+pub ternary_test_out : (f : List ℕ) (b n last k p : ℕ) → ternary_test f b n last k p ≡ Fine → Ternary f b n last k p
+unfolding ternary_test
+ternary_test_out f b n last k p q =
+    let a = then_fine _ _ q in
+    let c = then_fine _ _ a.1 in
+    record { within = (opened_out _ _ _ _ a.0).0; few = leb-true _ _ (need_fine _ _ c.0); fits = ternary_out _ _ _ _ (need_fine _ _ c.1) }
+
+ternary_test_in : (f : List ℕ) (b n last k p : ℕ) → Ternary f b n last k p → ternary_test f b n last k p ≡ Fine
+unfolding ternary_test
+ternary_test_in f b n last k p t =
+    then_ok _ _ (opened_in f p true _ t.within refl)
+    (then_ok _ _ (need_ok _ _ (le-leb (n + k + 1) 32 t.few)) (need_ok _ _ (ternary_in _ _ _ _ t.fits)))
+
+pub ternaries_out : (f : List ℕ) (b n q k : ℕ) → ternaries_test f b n q k ≡ Fine → (t : ℕ) → t < k → Ternary f b n (last_scope f q t) t (ternary_at f q t)
+unfolding ternaries_test
+ternaries_out f b n q zero e t h = absurd (omega arith)
+ternaries_out f b n q (suc k) e t h =
+    let a = then_fine _ _ e in
+    ⊎_elim
+    (λ (i : t ≡ k). rw i (ternary_test_out _ _ _ _ _ _ a.1))
+    (λ (l : t < k). ternaries_out f b n q k a.0 t l)
+    (eq-or-lt_of_le (le_of_suc-le-suc h))
+
+pub ternaries_in_lem : (f : List ℕ) (b n q k : ℕ) → ((t : ℕ) → t < k → Ternary f b n (last_scope f q t) t (ternary_at f q t)) → ternaries_test f b n q k ≡ Fine
+unfolding ternaries_test
+ternaries_in_lem f b n q zero v = refl
+ternaries_in_lem f b n q (suc k) v =
+    then_ok _ _ (ternaries_in_lem f b n q k (λ t h. v t (omega arith))) (ternary_test_in _ _ _ _ _ _ (v k (omega arith)))
+
+-- One that is fine has at most 54 bytes; k of them are few, and end no further on.
+pub ternary_short : (f : List ℕ) (b n last k p : ℕ) → Ternary f b n last k p → 2 + body_at f p ≤ 54
+unfolding body_at
+ternary_short f b n last k p t = omega (arith, t.fits.most)
+
+pub ternaries_few : (f : List ℕ) (b n q k : ℕ) → n ≤ 32 → ternaries_test f b n q k ≡ Fine → n + k ≤ 32
+ternaries_few f b n q zero h e = omega arith
+ternaries_few f b n q (suc k) h e = omega (arith, (ternaries_out f b n q (suc k) e k (omega arith)).few)
+
+ternaries_short : (f : List ℕ) (b n q k : ℕ) → ternaries_test f b n q k ≡ Fine → ternary_at f q k ≤ q + 54 * k
+unfolding ternaries_test ternary_at
+ternaries_short f b n q zero e = omega arith
+ternaries_short f b n q (suc k) e =
+    let a = then_fine _ _ e in
+    omega (arith, ternaries_short f b n q k a.0, ternary_short f b n _ k _ (ternary_test_out _ _ _ _ _ _ a.1))
+
+-- So no file of such records ends behind 17,992.
+pub end_most :
+    (f : List ℕ) → Counts (n_of f) (m_of f) → ternaries_test f (variables_at f) (n_of f) (after_constraints f) (t_of f) ≡ Fine → end_at f ≤ 17992
+unfolding end_at
+end_most f c e =
+    let w = ternaries_few f _ _ _ _ c.most e in
+    omega (arith, ternaries_short f _ _ _ _ e, after_most f (t_of f) c w)
 
 -- EN.
 pub en_out : (f : List ℕ) (p : ℕ) → en_test f p ≡ Fine → (length f ≡ p + 2) × (marked f p EN ≡ true)

@@ -2,5 +2,5 @@
 
 -- The records one by one, each with its tests in the order in which they decide; then the whole file.
 pub mod Records
--- What the test of the variables hands out.
+-- What the tests of the variables and of the records TT hand out.
 pub mod Tested

@@ -1,12 +1,13 @@
 -- Which files are accepted, record by record in the order of the file: "In a file, the earliest record decides; within it Short for
--- the mark, Mark, Short for the body, then 3, 8, 4, 5, 6, 7 as they apply." The place is the record's first byte.
+-- the mark, Mark, Short for the body, then 3, 8, 4, 5, 6, 7 as they apply." Document 02, card 7: "26 Triple .. tested where 5 to 7 are; 27 Many .. before 26". The
+-- place is the record's first byte.
 use Rattle.std.specs.Prelude.{ℕ, zero, suc, ◌+◌, ◌*◌, true, ◌||◌, not, List, length, leb, eqb}
-use Rattle.refusal.specs.declared.reason.Reason.TheVariants.{Count, Domain, Rules, Tail}
+use Rattle.refusal.specs.declared.reason.Reason.TheVariants.{Count, Domain, Rules, Tail, Triple, Many}
 use Rattle.refusal.specs.Reason.{◌at◌}
 use Rattle.refusal.specs.Chain.{Verdict, Fine, ◌then◌, need, only, placed}
 use Rattle.rule_set.specs.RuleSet.{is_rule_set}
-use Rattle.file_layout.specs.Layout.{byte, word, marked, opened, QP, VE, VA, CT, EN, n_of, m_of, has_rules, variables_at, domain_at, one_at, two_at, row_at, pair_at, constraints_at, end_at}
-use Rattle.file_layout.specs.Numbers.{counts_fit, constraint_fits}
+use Rattle.file_layout.specs.Layout.{byte, word, marked, opened, QP, VE, VA, CT, EN, n_of, m_of, has_rules, variables_at, domain_at, one_at, two_at, row_at, pair_at, constraints_at, after_constraints, number_at, body_at, ternary_at, t_of, end_at}
+use Rattle.file_layout.specs.Numbers.{counts_fit, constraint_fits, scope_of, ternary_fits}
 
 -- `QP`.
 unfoldable pub qp_test : List ℕ → Verdict
@@ -37,6 +38,26 @@ unfoldable pub constraints_test : List ℕ → ℕ → ℕ → ℕ → ℕ → V
 constraints_test f b n q zero = Fine
 constraints_test f b n q (suc k) = constraints_test f b n q k then constraint_test f b n (last_pair f q k) (q + 36 * k)
 
+-- `TT` at p, record k of those behind the constraints of a file of n variables, behind a record of the three variables last: 27 where "the sum above 32",
+-- "before 26".
+unfoldable pub ternary_test : List ℕ → ℕ → ℕ → ℕ → ℕ → ℕ → Verdict
+ternary_test f b n last k p =
+    opened f p true (body_at f p)
+    then need (leb (n + k + 1) 32) (Many at p)
+    then need (ternary_fits (domain_at f b) n last (number_at f p)) (Triple at p)
+
+unfoldable pub scope_at : List ℕ → ℕ → ℕ
+scope_at f p = scope_of (number_at f p 0) (number_at f p 1) (number_at f p 2)
+
+unfoldable pub last_scope : List ℕ → ℕ → ℕ → ℕ
+last_scope f q zero = 0
+last_scope f q (suc k) = scope_at f (ternary_at f q k)
+
+-- The first k of them from q.
+unfoldable pub ternaries_test : List ℕ → ℕ → ℕ → ℕ → ℕ → Verdict
+ternaries_test f b n q zero = Fine
+ternaries_test f b n q (suc k) = ternaries_test f b n q k then ternary_test f b n (last_scope f q k) k (ternary_at f q k)
+
 -- `EN` at p, and nothing behind it: Tail at the first byte too many.
 unfoldable pub en_test : List ℕ → ℕ → Verdict
 en_test f p = opened f p (marked f p EN) 0 then need (leb (length f) (p + 2)) (Tail at (p + 2))
@@ -46,6 +67,7 @@ unfoldable pub rest_test : List ℕ → Verdict
 rest_test f =
     variables_test f (variables_at f) (n_of f)
     then constraints_test f (variables_at f) (n_of f) (constraints_at f) (m_of f)
+    then ternaries_test f (variables_at f) (n_of f) (after_constraints f) (t_of f)
     then en_test f (end_at f)
 
 -- The whole file.

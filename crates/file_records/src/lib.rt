@@ -5,9 +5,11 @@
 mod constraints;
 mod end;
 mod head;
+mod ternaries;
 mod variables;
 
 pub use constraints::constraints_test;
 pub use end::en_test;
 pub use head::{qp_test, rs_test};
+pub use ternaries::{Ternaries, ternaries_test};
 pub use variables::variables_test;

@@ -2,19 +2,19 @@
 use Prim.Native.Nat.{ℕ, zero, suc, ◌+◌, ◌*◌, ◌/◌, ◌%◌, ◌≤◌, ◌<◌}
 use mathlib.Core.Path.{◌≡◌, sym, ap, ◌∙◌}
 use mathlib.Core.Bool.{Bool, true, false, ◌||◌, and-false, or-true}
-use mathlib.Core.List.{List, ◌++◌}
+use mathlib.Core.List.{List, [], ◌∷◌, ◌++◌}
 use mathlib.Core.Logic.{⊎_elim}
 use lib.ListN.{length, get_or, length-append, get_or-append}
 use lib.Seq.{get_or-append-add}
 use native.Mathlib.Nat.{zero-add, add-zero, add_assoc, eq-or-lt_of_le, le_of_suc-le-suc}
 use native.Mathlib.Omega.{arith}
 use borrow.Author.Tests.{le-leb, eq-eqb, ne_eqb}
-use Rattle.file_layout.specs.Layout.{word, marked, VE, VA, CT, row_at, one_at, two_at}
+use Rattle.file_layout.specs.Layout.{word, marked, VE, VA, CT, TT, row_at, one_at, two_at, number_at}
 use Rattle.file_records.proofs.RecordLaws.{Variable}
 use Rattle.buffer.specs.Stored.{joined}
-use Rattle.file_bytes.specs.Bytes.{word_bytes, mark_bytes, variable_mark, variable_bytes, pair_bytes, rows_bytes, constraint_bytes}
-use Rattle.buffer.proofs.StoredLaws.{InRow, row_front, length-joined}
-use Rattle.file_bytes.proofs.RecordLaws.{length_mark, length_pair, length_constraint, rows_row}
+use Rattle.file_bytes.specs.Bytes.{word_bytes, mark_bytes, variable_mark, variable_bytes, pair_bytes, rows_bytes, constraint_bytes, ternary_bytes}
+use Rattle.buffer.proofs.StoredLaws.{InRow, row_front, length-joined, one_each, one_at as byte_of}
+use Rattle.file_bytes.proofs.RecordLaws.{length_mark, length_pair, length_constraint, length_ternary, rows_row}
 
 -- g stands in f at p.
 pub record StandsAt (f : List ℕ) (p : ℕ) (g : List ℕ) : Type 0 where
@@ -147,3 +147,20 @@ module _ (f : List ℕ) (p i j : ℕ) (row : ℕ → ℕ) (a : StandsAt f p (con
       word_is f (p + 4 + 2 * r) (row r)
       (joined_in f _ (p + 4) _ 16 r (rows_row row (p + 4) 16)
       (right f p _ (mark_bytes CT ++ pair_bytes i j) (rows_bytes row 16) (ap (λ (x : ℕ). p + x) (length_pair CT i j)) a) h)
+
+-- ---- a three-way constraint
+
+-- What a three-way constraint's record says.
+module _ (f : List ℕ) (p : ℕ) (x : ℕ → ℕ) (size : ℕ) (a : StandsAt f p (ternary_bytes x size)) where
+  pub ternary_long : p + 2 + size ≤ length f
+  ternary_long = omega (arith, a.long, length_ternary x size)
+
+  pub ternary_mark : marked f p TT ≡ true
+  unfolding ternary_bytes
+  ternary_mark = mark_is f p TT (left f p (mark_bytes TT) (joined (λ k. x k % 256 ∷ []) size) a)
+
+  pub ternary_number : (k : ℕ) → k < size → number_at f p k ≡ x k % 256
+  unfolding ternary_bytes number_at
+  ternary_number k h =
+      let b = right f p _ (mark_bytes TT) (joined (λ k. x k % 256 ∷ []) size) (ap (λ (y : ℕ). p + y) (length_mark TT)) a in
+      b.same k (omega (arith, one_each (λ k. x k % 256) size)) ∙ byte_of (λ k. x k % 256) size k h

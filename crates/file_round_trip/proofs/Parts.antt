@@ -1,22 +1,22 @@
 -- The bytes of each record of an accepted file are the part of the file where it stands, so all of them together are the file.
-use Prim.Native.Nat.{ℕ, zero, suc, ◌+◌, ◌*◌, ◌≤◌, ◌<◌}
+use Prim.Native.Nat.{ℕ, zero, suc, ◌+◌, ◌*◌, ◌%◌, ◌≤◌, ◌<◌}
 use mathlib.Core.Path.{◌≡◌, refl, sym, ap, ◌∙◌}
 use mathlib.Core.Bool.{Bool, true, false, cond, ◌||◌, or-false}
 use mathlib.Core.List.{List, [], ◌∷◌, ◌++◌}
-use lib.ListN.{length, get_or, take, drop, length-append}
-use lib.Seq.{drop-cons, take-add, drop-drop, take_all}
+use lib.ListN.{length, get_or, take, drop, length-append, length-take, length-drop}
+use lib.Seq.{drop-cons, take-add, drop-drop, take_all, ext_get_or, get_or-take, get_or-drop}
 use native.Mathlib.Nat.{zero-add}
 use native.Mathlib.Numerals.{add-one}
 use native.Mathlib.Omega.{arith}
 use Rattle.std.specs.Prelude.{None, Some}
-use Rattle.file_layout.specs.Layout.{byte, word, marked, QP, RS, VE, VA, CT, EN, n_of, m_of, has_rules, rules_of, variables_at, domain_at, universal_at, one_at, two_at, row_at, constraints_at, after_constraints, end_at}
+use Rattle.file_layout.specs.Layout.{byte, word, marked, QP, RS, VE, VA, CT, TT, EN, n_of, m_of, t_of, has_rules, rules_of, variables_at, domain_at, universal_at, one_at, two_at, row_at, constraints_at, after_constraints, number_at, body_at, ternary_at, end_at}
 use Rattle.file_layout.proofs.LayoutLaws.{mark_out, variables-before, end_behind}
 use Rattle.file_records.proofs.RecordLaws.{Variable}
 use Rattle.file_reader.proofs.Accepted.{Accepted}
 use Rattle.buffer.specs.Stored.{joined}
-use Rattle.file_bytes.specs.Bytes.{word_bytes, mark_bytes, variable_mark, variable_bytes, variables_bytes, pair_bytes, rows_bytes, constraint_bytes, constraints_bytes, head_bytes, qp_bytes, rs_bytes, Handed, domain_in, one_in, two_in, row_handed, bytes_of}
+use Rattle.file_bytes.specs.Bytes.{word_bytes, mark_bytes, variable_mark, variable_bytes, variables_bytes, pair_bytes, rows_bytes, constraint_bytes, constraints_bytes, head_bytes, qp_bytes, rs_bytes, Handed, domain_in, one_in, two_in, row_handed, ternary_bytes, count_in, ternary_in, bytes_of}
 use Rattle.mask.specs.Mask.{bit}
-use Rattle.buffer.proofs.StoredLaws.{InRow, row_front, length-joined}
+use Rattle.buffer.proofs.StoredLaws.{InRow, row_front, length-joined, one_each, one_at as byte_of}
 use Rattle.file_bytes.proofs.RecordLaws.{length-word, length_variable, length_constraint, variables-row, rows_row, constraints-row}
 
 -- The k elements of f from p on.
@@ -49,22 +49,38 @@ part-two f p h =
 part_behind : (f : List ℕ) (k d r : ℕ) → k + d ≡ r → part f 0 k ++ part f k d ≡ part f 0 r
 part_behind f k d r s = ap (λ (i : ℕ). part f 0 k ++ part f i d) (sym (zero-add k)) ∙ part_more f 0 k d ∙ ap (part f 0) s
 
+-- How long a part is, and what stands in it.
+pub length-part : (f : List ℕ) (p k : ℕ) → p + k ≤ length f → length (part f p k) ≡ k
+unfolding part
+length-part f p k h = length-take k (drop p f) ∙ omega (arith, length-drop p f)
+
+pub part_is : (f xs : List ℕ) (p : ℕ) → p + length xs ≤ length f → ((k : ℕ) → k < length xs → get_or xs k 0 ≡ get_or f (p + k) 0) →
+    xs ≡ part f p (length xs)
+unfolding part
+part_is f xs p h v =
+    ext_get_or 0 xs (part f p (length xs)) (sym (length-part f p (length xs) h))
+    (λ k l. v k l ∙ sym (get_or-take (length xs) (drop p f) k 0 l ∙ get_or-drop p f k 0))
+
 -- A part that is long enough is all of f.
-part_all : (f : List ℕ) (k : ℕ) → length f ≤ k → part f 0 k ≡ f
+pub part_all : (f : List ℕ) (k : ℕ) → length f ≤ k → part f 0 k ≡ f
 unfolding part
 part_all f k h = take_all k f h
 
--- Where the constraints and `EN` begin.
+-- Where the constraints, those of three variables and `EN` begin.
 constraints_begin : (f : List ℕ) → variables_at f + 4 * n_of f ≡ constraints_at f
 unfolding constraints_at
 constraints_begin f = refl
 
-end_begins : (f : List ℕ) → constraints_at f + 36 * m_of f ≡ end_at f
-unfolding end_at after_constraints
+ternaries_begin : (f : List ℕ) → constraints_at f + 36 * m_of f ≡ after_constraints f
+unfolding after_constraints
+ternaries_begin f = refl
+
+end_begins : (f : List ℕ) → ternary_at f (after_constraints f) (t_of f) ≡ end_at f
+unfolding end_at
 end_begins f = refl
 
 -- Lists that are parts of f, one behind another, join to a part of f.
-joined-part : (f : List ℕ) (g : ℕ → List ℕ) (p : ℕ) (at : ℕ → ℕ) (k : ℕ) → InRow g p at k → ((i : ℕ) → i < k → g i ≡ part f (at i) (length (g i))) →
+pub joined-part : (f : List ℕ) (g : ℕ → List ℕ) (p : ℕ) (at : ℕ → ℕ) (k : ℕ) → InRow g p at k → ((i : ℕ) → i < k → g i ≡ part f (at i) (length (g i))) →
     joined g k ≡ part f p (length (joined g k))
 unfolding joined
 joined-part f g p at zero r v = sym (part_nil f p)
@@ -145,6 +161,24 @@ module _ (f : List ℕ) (bytes : (k : ℕ) → get_or f k 0 < 256) where
       ∙ ap (part f (p + 4)) (omega (arith, length-joined _ _ _ _ (rows_row row (p + 4) 16))))
       ∙ part_more f p 4 32
 
+  -- The record of a three-way constraint, given its numbers.
+  pub ternary_part : (p : ℕ) (x : ℕ → ℕ) → p + 2 + body_at f p ≤ length f → marked f p TT ≡ true →
+      ((k : ℕ) → k < body_at f p → x k ≡ number_at f p k) →
+      ternary_bytes x (body_at f p) ≡ part f p (2 + body_at f p)
+  unfolding ternary_bytes number_at
+  ternary_part p x h m e =
+      let size = body_at f p in
+      let ys = joined (λ k. x k % 256 ∷ []) size in
+      let l : length ys ≡ size = one_each (λ k. x k % 256) size in
+      ap (λ (z : List ℕ). z ++ ys) (mark_part f p TT m)
+      ∙ ap (λ (z : List ℕ). part f p 2 ++ z)
+      (part_is f ys (p + 2) (omega arith)
+      (λ k g.
+      let r : k < size = omega arith in
+      byte_of (λ k. x k % 256) size k r ∙ omega (arith, e k r, bytes (p + 2 + k)))
+      ∙ ap (part f (p + 2)) l)
+      ∙ part_more f p 2 size
+
   -- `QP`, and `RS` where d says that it stands.
   qp_part : 5 ≤ length f → marked f 0 QP ≡ true → qp_bytes (n_of f) (m_of f) ≡ part f 0 5
   unfolding qp_bytes
@@ -168,6 +202,11 @@ module _ (f : List ℕ) (bytes : (k : ℕ) → get_or f k 0 < 256) where
   sum true = refl
   sum false = refl
 
+  -- Lists as long as the records `TT` stand where these stand.
+  ternary_row : (p : ℕ) (g : ℕ → List ℕ) (k : ℕ) → ((q : ℕ) → q < k → length (g q) ≡ 2 + body_at f (ternary_at f p q)) → InRow g p (ternary_at f p) k
+  unfolding ternary_at
+  ternary_row p g k l = record { first = refl; next = λ q h. omega (arith, l q h) }
+
   -- `QP` and `RS`.
   head_part : Accepted f → head_bytes (n_of f) (m_of f) (rules_of f) ≡ part f 0 (variables_at f)
   unfolding head_bytes rules_of variables_at
@@ -179,25 +218,38 @@ module _ (f : List ℕ) (bytes : (k : ℕ) → get_or f k 0 < 256) where
       ∙ ap (part f 0) (sum (has_rules f))
 
   -- The bytes of numbers whose records are the file's parts are the file.
-  pub bytes_part : Accepted f → (h : Handed) → h.n ≡ n_of f → h.m ≡ m_of f → h.rules ≡ rules_of f →
+  pub bytes_part : Accepted f → (h : Handed) → h.n ≡ n_of f → h.m ≡ m_of f → h.rules ≡ rules_of f → count_in h.ternaries ≡ t_of f →
       ((i : ℕ) → i < n_of f → variable_bytes (bit h.universal i) (domain_in h.domains i) ≡ part f (variables_at f + 4 * i) 4) →
       ((t : ℕ) → t < m_of f → constraint_bytes (one_in h.constraints t) (two_in h.constraints t) (row_handed h.constraints t) ≡ part f (constraints_at f + 36 * t) 36) →
+      ((q : ℕ) → q < t_of f →
+      let p = ternary_at f (after_constraints f) q in
+      ternary_in h.ternaries q ≡ part f p (2 + body_at f p)) →
       bytes_of h ≡ f
   unfolding bytes_of variables_bytes constraints_bytes
-  bytes_part a h en em er vs cs =
+  bytes_part a h en em er et vs cs ts =
       let b = variables_at f in
       let q = constraints_at f in
+      let r = after_constraints f in
       let e = end_at f in
+      let at = ternary_at f r in
       let S = variables_bytes (bit h.universal) (domain_in h.domains) in
       let C = constraints_bytes (one_in h.constraints) (two_in h.constraints) (row_handed h.constraints) in
+      let T = joined (ternary_in h.ternaries) in
       let rv = variables-row (bit h.universal) (domain_in h.domains) b (n_of f) in
       let rc = constraints-row (one_in h.constraints) (two_in h.constraints) (row_handed h.constraints) q (m_of f) in
-      rw (en, em, er)
-      (ap (λ (z : List ℕ). ((z ++ S (n_of f)) ++ C (m_of f)) ++ mark_bytes EN) (head_part a)
-      ∙ ap (λ (z : List ℕ). ((part f 0 b ++ z) ++ C (m_of f)) ++ mark_bytes EN) (joined-part f _ b _ (n_of f) rv (λ i h. exact f _ _ 4 (vs i h) (length_variable _ _)))
-      ∙ ap (λ (z : List ℕ). (z ++ C (m_of f)) ++ mark_bytes EN) (part_behind f b _ q (length-joined _ _ _ _ rv ∙ constraints_begin f))
-      ∙ ap (λ (z : List ℕ). (part f 0 q ++ z) ++ mark_bytes EN) (joined-part f _ q _ (m_of f) rc (λ t h. exact f _ _ 36 (cs t h) (length_constraint _ _ _)))
-      ∙ ap (λ (z : List ℕ). z ++ mark_bytes EN) (part_behind f q _ e (length-joined _ _ _ _ rc ∙ end_begins f))
+      let lt : (k : ℕ) → k < t_of f → length (ternary_in h.ternaries k) ≡ 2 + body_at f (at k)
+      = λ k l. ap length (ts k l) ∙ length-part f (at k) (2 + body_at f (at k)) (omega (arith, (a.ternary k l).within)) in
+      let rt = ternary_row r (ternary_in h.ternaries) (t_of f) lt in
+      rw (en, em, er, et)
+      (ap (λ (z : List ℕ). (((z ++ S (n_of f)) ++ C (m_of f)) ++ T (t_of f)) ++ mark_bytes EN) (head_part a)
+      ∙ ap (λ (z : List ℕ). (((part f 0 b ++ z) ++ C (m_of f)) ++ T (t_of f)) ++ mark_bytes EN)
+      (joined-part f _ b _ (n_of f) rv (λ i h. exact f _ _ 4 (vs i h) (length_variable _ _)))
+      ∙ ap (λ (z : List ℕ). ((z ++ C (m_of f)) ++ T (t_of f)) ++ mark_bytes EN) (part_behind f b _ q (length-joined _ _ _ _ rv ∙ constraints_begin f))
+      ∙ ap (λ (z : List ℕ). ((part f 0 q ++ z) ++ T (t_of f)) ++ mark_bytes EN)
+      (joined-part f _ q _ (m_of f) rc (λ t h. exact f _ _ 36 (cs t h) (length_constraint _ _ _)))
+      ∙ ap (λ (z : List ℕ). (z ++ T (t_of f)) ++ mark_bytes EN) (part_behind f q _ r (length-joined _ _ _ _ rc ∙ ternaries_begin f))
+      ∙ ap (λ (z : List ℕ). (part f 0 r ++ z) ++ mark_bytes EN) (joined-part f _ r at (t_of f) rt (λ k l. exact f _ _ _ (ts k l) (lt k l)))
+      ∙ ap (λ (z : List ℕ). z ++ mark_bytes EN) (part_behind f r _ e (length-joined _ _ _ _ rt ∙ end_begins f))
       ∙ ap (λ (z : List ℕ). part f 0 e ++ z) (mark_part f e EN a.ends)
       ∙ part_behind f e 2 (e + 2) refl
       ∙ part_all f (e + 2) (omega (arith, a.size)))

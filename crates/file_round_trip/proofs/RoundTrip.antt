@@ -15,21 +15,28 @@ use Rattle.std.specs.Prelude.{Ok, Err, None, Some}
 use Rattle.refusal.specs.Chain.{Test, Fine}
 use Rattle.refusal.specs.Told.{replied}
 use Rattle.refusal.specs.Replied.{replied_for}
-use Rattle.file_layout.specs.Layout.{byte, n_of, m_of, has_rules, rules_of, variables_at, domain_at, universal_at, one_at, two_at, row_at, pair_at, constraints_at}
-use Rattle.file_records.specs.Records.{last_pair, verdict_of}
+use Rattle.file_layout.specs.Layout.{byte, n_of, m_of, has_rules, rules_of, variables_at, domain_at, universal_at, one_at, two_at, row_at, pair_at, constraints_at, after_constraints, number_at, body_at, ternary_at, t_of, end_at}
+use Rattle.file_layout.proofs.LayoutLaws.{leading_marked}
+use Rattle.file_records.specs.Records.{last_pair, scope_at, last_scope, verdict_of}
 use Rattle.file_reader.specs.declared.Head.{Head}
 use Rattle.file_reader.specs.Reading.{header_numbers, universal_bits, domains_to, head_of, header_for, domains_for, header_of, domains_of}
-use Rattle.file_reader.proofs.Accepted.{Accepted, accepted, file-length, header_is, domains_is, header_shows, head_is, length-domains, domains-length, domain_in_lem, read_domain, domain-some, read_universal}
+use Rattle.file_reader.proofs.Accepted.{Accepted, accepted, variables_and_ternaries, header_is, domains_is, header_shows, head_is, length-domains, domains-length, domain_in_lem, read_domain, domain-some, read_universal}
 use Rattle.file_lookup.specs.Lookup.{constraints_shown, numbers_to}
 use Rattle.file_lookup.proofs.Shown.{length_numbers, number-one, number-two, number-row, shown_all}
-use Rattle.file_bytes.specs.Bytes.{Handed, bytes_of, start_of, length_of, domain_in, one_in, two_in, row_handed}
-use Rattle.file_writer.specs.Tests.{rules_fit, pair_in, last_in}
+use Rattle.file_lookup.specs.Ternary.{ternaries_shown}
+use Rattle.file_lookup.proofs.TernaryLaws.{body_shown, length_body, body_number, shown_ternaries}
+use Rattle.buffer.specs.Stored.{joined}
+use Rattle.buffer.proofs.StoredLaws.{joined_same}
+use Rattle.file_bytes.proofs.WalkLaws.{start_first, start_next, stands}
+use Rattle.file_bytes.specs.Bytes.{from, size_in, start_in, count_in, ternary_in, Handed, bytes_of, start_of, length_of, domain_in, one_in, two_in, row_handed}
+use Rattle.file_writer.specs.Tests.{rules_fit, pair_in, last_in, scope_in, last_scope_in}
 use Rattle.file_writer.specs.Writing.{write_told, write_buffer}
 use Rattle.file_writer.proofs.Writable.{Writable, writable, write_fine, told_fine, buffer_fine}
 use Rattle.file_round_trip.specs.Writes.{Writes}
 use Rattle.file_round_trip.specs.Shown.{shown_with, head_in, Shown}
-use Rattle.file_round_trip.proofs.Parts.{variable_part, constraint_part, bytes_part}
-use Rattle.file_round_trip.proofs.Written.{fits_same, file_fine, file_n, file_m, file-rules, file-domain, file-universal, file-one, file-two, file-row}
+use Rattle.file_round_trip.proofs.Parts.{part, part_is, variable_part, constraint_part, ternary_part, bytes_part}
+use Rattle.file_round_trip.proofs.Listed.{size_is, number_there, count_is, whole_is, record_of, records_joined}
+use Rattle.file_round_trip.proofs.Written.{fits_same, ternary_fits_same, file_fine, file_n, file_m, file_t, file-rules, file-domain, file-universal, file-one, file-two, file-row, file-body, file-number}
 
 -- ---- from a file to its numbers and back
 
@@ -69,9 +76,47 @@ module _ (f : List ℕ) (fine : verdict_of f ≡ Fine) where
   last-shown zero h = refl
   last-shown (suc t) h = sym (rw (one-shown t (omega arith), two-shown t (omega arith)))
 
+  -- The records that the look-up by place shows are those of the file, each of as many numbers, one behind another.
+  body_sized : (q : ℕ) → q < t_of f → length (body_shown f q) ≡ 4 + 3 * get_or (body_shown f q) 3 0
+  unfolding body_at
+  body_sized q h = length_body f fine q h ∙ ap (λ (c : ℕ). 4 + 3 * c) (sym (body_number f fine q 3 h (omega arith)))
+
+  size-shown : (q : ℕ) → q < t_of f → size_in (ternaries_shown f) (start_in (ternaries_shown f) q) ≡ body_at f (ternary_at f (after_constraints f) q)
+  size-shown q h = rw (shown_ternaries f fine) (size_is (body_shown f) (t_of f) body_sized q h ∙ length_body f fine q h)
+
+  number-shown : (q x : ℕ) → q < t_of f → x < body_at f (ternary_at f (after_constraints f) q) →
+      from (ternaries_shown f) (start_in (ternaries_shown f) q) x ≡ number_at f (ternary_at f (after_constraints f) q) x
+  number-shown q x h l =
+      rw (shown_ternaries f fine)
+      (number_there (body_shown f) (t_of f) body_sized q x h (omega (arith, length_body f fine q h)) ∙ body_number f fine q x h l)
+
+  count-shown : count_in (ternaries_shown f) ≡ t_of f
+  count-shown = rw (shown_ternaries f fine) (count_is (body_shown f) (t_of f) body_sized)
+
+  whole-shown : start_in (ternaries_shown f) (count_in (ternaries_shown f)) ≡ length (ternaries_shown f)
+  whole-shown = rw (shown_ternaries f fine) (whole_is (body_shown f) (t_of f) body_sized)
+
+  place-shown : (q : ℕ) → q ≤ t_of f → ternary_at f (after_constraints f) q ≡ after_constraints f + (start_in (ternaries_shown f) q + 2 * q)
+  unfolding ternary_at
+  place-shown zero h = omega (arith, start_first (ternaries_shown f))
+  place-shown (suc q) h = omega (arith, place-shown q (omega arith), size-shown q (omega arith), start_next (ternaries_shown f) q)
+
+  last-scope-shown : (q : ℕ) → q < t_of f → last_scope f (after_constraints f) q ≡ last_scope_in (ternaries_shown f) q
+  unfolding last_scope last_scope_in scope_at scope_in body_at
+  last-scope-shown zero h = refl
+  last-scope-shown (suc q) h =
+      let l : q < t_of f = omega arith in
+      sym (rw (number-shown q 0 l (omega arith), number-shown q 1 l (omega arith), number-shown q 2 l (omega arith)) refl)
+
+  length_shown : Accepted f → length f ≡ length_of (shown_with (head_of f) f)
+  unfolding head_of length_of end_at after_constraints constraints_at
+  length_shown a =
+      let s = ap (start_in (ternaries_shown f)) count-shown in
+      omega (arith, a.size, place-shown (t_of f) (le_refl (t_of f)), count-shown, s, whole-shown, start-shown f)
+
   -- The writer takes it.
   writable_shown : (room : ℕ) → length f ≤ room → Writable (shown_with (head_of f) f) room
-  unfolding head_of universal_bits length_of
+  unfolding head_of universal_bits body_at
   writable_shown room h =
       let a = accepted f fine in
       let n : n_of f ≤ 32 = a.head.counts.most in
@@ -87,19 +132,30 @@ module _ (f : List ℕ) (fine : verdict_of f ≡ Fine) where
             fits_same (domain_at f (variables_at f)) (domain_in (take (n_of f) (domains_of f))) (n_of f) _ _ _ _ _ _ (row_at f (constraints_at f + 36 * t)) (row_handed (constraints_shown f) t)
             (last-shown t l) (sym (one-shown t l)) (sym (two-shown t l)) (λ k g. sym (domain-shown k g)) (λ r g. sym (row-shown t r l g))
             (a.constraint t l).fits;
-        wide = omega (arith, file-length f a, start-shown f);
+        whole = whole-shown;
+        few = omega (arith, count-shown, variables_and_ternaries f fine);
+        triples = λ q l.
+            let h : q < t_of f = rw count-shown at l in
+            ternary_fits_same (domain_at f (variables_at f)) (domain_in (take (n_of f) (domains_of f))) (n_of f) _ _ _ _
+            (last-scope-shown q h) (λ k g. sym (domain-shown k g)) (λ x g. sym (number-shown q x h g))
+            (a.ternary q h).fits;
+        wide = omega (arith, h, length_shown a);
       }
 
   -- Its bytes are the file.
   bytes_shown : ((k : ℕ) → get_or f k 0 < 256) → bytes_of (shown_with (head_of f) f) ≡ f
-  unfolding head_of
+  unfolding head_of ternary_in t_of
   bytes_shown bytes =
       let a = accepted f fine in
-      bytes_part f bytes a _ refl refl refl
+      bytes_part f bytes a _ refl refl refl count-shown
       (λ i h. rw (read_universal f (variables_at f) (n_of f) i h, domain-shown i h) (variable_part f bytes (variables_at f) i (a.variable i h)))
       (λ t h.
       let c = a.constraint t h in
       constraint_part f bytes (constraints_at f + 36 * t) _ _ _ c.within c.mark (one-shown t h) (two-shown t h) (λ r l. row-shown t r h l))
+      (λ q h.
+      rw (size-shown q h)
+      (ternary_part f bytes (ternary_at f (after_constraints f) q) _ (a.ternary q h).within (leading_marked f (after_constraints f) 33 q h)
+      (λ x l. number-shown q x h l)))
 
 -- For every accepted file, what the reader and the look-up show, handed to the writer with room enough, gives the very bytes: the
 -- writer tells the file's length, the file stands at the front of the buffer, and every byte behind it is as it was.
@@ -154,7 +210,7 @@ module _ (h : Handed) (room : ℕ) (ok : Writable h room) where
   unfolding header_for head_of header_numbers
   header_back =
       header_is F Fine fine
-      ∙ rw (file_n h room ok, file_m h room ok, file-rules h room ok, bits_back)
+      ∙ rw (file_n h room ok, file_m h room ok, file_t h room ok, file-rules h room ok, bits_back)
 
   domain_back : (i : ℕ) → i < 32 → get_or (domains_to F (variables_at F) h.n) i 0 ≡ get_or (h.domains ++ replicate (32 - h.n) 0) i 0
   domain_back i r =
@@ -200,8 +256,26 @@ module _ (h : Handed) (room : ℕ) (ok : Writable h room) where
       shown_all F fine ∙ ap (numbers_to F) (file_m h room ok)
       ∙ ext_get_or 0 (numbers_to F h.m) h.constraints (l ∙ sym ok.constraints_long) (λ k g. number_back k (omega arith))
 
+  -- The bodies are the records of the list.
+  body_back : (q : ℕ) → q < count_in h.ternaries → body_shown F q ≡ record_of h.ternaries ok.whole q
+  body_back q l =
+      let xs = h.ternaries in
+      let e = file-body h room ok q l in
+      let g : q < t_of F = rw (file_t h room ok) l in
+      let s = length_body F fine q g ∙ e in
+      part_is xs (body_shown F q) (start_in xs q) (omega (arith, s, (stands xs q (count_in xs) l (le_refl (count_in xs))).0))
+      (λ x k. body_number F fine q x g (omega (arith, length_body F fine q g)) ∙ file-number h room ok q x l (omega (arith, s)))
+      ∙ ap (part xs (start_in xs q)) s
+
+  ternaries_back : ternaries_shown F ≡ h.ternaries
+  ternaries_back =
+      shown_ternaries F fine
+      ∙ ap (joined (body_shown F)) (file_t h room ok)
+      ∙ joined_same (body_shown F) (record_of h.ternaries ok.whole) (count_in h.ternaries) body_back
+      ∙ records_joined h.ternaries ok.whole
+
   shown_back : Shown F h
-  shown_back = record { header = header_back; masks = domains_back; rows = constraints_back }
+  shown_back = record { header = header_back; masks = domains_back; rows = constraints_back; bodies = ternaries_back }
 
 -- What the writer took was fine, and the length told is that of the file.
 told-length : (t : Test) (j k : ℕ) → replied_for t (j ∷ []) ≡ replied (k ∷ []) → (t ≡ Fine) × (j ≡ k)
@@ -209,7 +283,7 @@ unfolding replied_for
 told-length (Ok u) j k e = (refl, cc)
 told-length (Err r) j k e = absurd (cc)
 
--- For all numbers that the writer takes, and every buffer, the reader and the look-up show of the bytes written just those numbers.
+-- For all numbers that the writer takes, and every buffer, the reader and the look-ups show of the bytes written just those numbers.
 pub read_back : (h : Handed) (old : List ℕ) (k : ℕ) → write_told h (length old) ≡ replied (k ∷ []) → Shown (take k (write_buffer h old)) h
 unfolding write_told
 read_back h old k e =

@@ -4,22 +4,24 @@ use mathlib.Core.Path.{◌≡◌, refl, sym, ap, ◌∙◌}
 use mathlib.Core.Bool.{Bool, true, false, false≢true}
 use mathlib.Core.List.{List, [], ◌∷◌, ◌++◌}
 use lib.ListN.{length, get_or}
-use native.Mathlib.Nat.{zero-add}
+use native.Mathlib.Nat.{zero-add, le_refl}
 use native.Mathlib.Omega.{arith}
 use Rattle.refusal.specs.Chain.{Fine}
 use Rattle.rule_set.specs.RuleSet.{is_rule_set}
 use Rattle.std.specs.Prelude.{Option, None, Some}
-use Rattle.file_layout.specs.Layout.{byte, word, marked, QP, RS, EN, n_of, m_of, has_rules, rules_of, variables_at, domain_at, universal_at, one_at, two_at, row_at, pair_at, constraints_at, after_constraints, end_at}
-use Rattle.file_layout.proofs.NumberLaws.{Fits}
-use Rattle.file_records.specs.Records.{last_pair, verdict_of}
-use Rattle.file_records.proofs.RecordLaws.{Constraint}
+use Rattle.file_layout.specs.Layout.{byte, word, marked, QP, RS, EN, n_of, m_of, has_rules, rules_of, variables_at, domain_at, universal_at, one_at, two_at, row_at, pair_at, constraints_at, after_constraints, end_at, TT, t_of, number_at, body_at, ternary_at}
+use Rattle.file_layout.proofs.LayoutLaws.{leading_all, leading_is}
+use Rattle.file_layout.proofs.NumberLaws.{Fits, TernaryFits, ternary_out, ternary_in as ternary_passes, ternary_eq}
+use Rattle.file_records.specs.Records.{last_pair, scope_at, last_scope, verdict_of}
+use Rattle.file_records.proofs.RecordLaws.{Constraint, Ternary}
 use Rattle.file_reader.proofs.Accepted.{Accepted, accept}
 use Rattle.mask.specs.Mask.{bit}
-use Rattle.file_bytes.specs.Bytes.{mark_bytes, word_bytes, variable_mark, variable_bytes, variables_bytes, constraint_bytes, constraints_bytes, head_bytes, qp_bytes, rs_bytes, Handed, variables_in, constraints_in, bytes_of, start_of, length_of, domain_in, one_in, two_in, row_handed}
-use Rattle.file_writer.specs.Tests.{rules_fit, pair_in, last_in}
-use Rattle.file_bytes.proofs.RecordLaws.{start_least, length_head, length_front, length_body, length_bytes, variables-row, constraints-row}
-use Rattle.file_writer.proofs.Writable.{Writable}
-use Rattle.file_round_trip.proofs.Held.{StandsAt, whole, left, right, joined_in, mark_is, not_first, variable_universal, variable_domain, variable_held, constraint_long, constraint_mark, constraint_one_lem, constraint_two_lem, constraint_row_lem}
+use Rattle.file_bytes.specs.Bytes.{mark_bytes, word_bytes, variable_mark, variable_bytes, variables_bytes, constraint_bytes, constraints_bytes, head_bytes, qp_bytes, rs_bytes, Handed, from, size_in, start_in, count_in, ternary_in, ternaries_in, variables_in, constraints_in, bytes_of, start_of, length_of, domain_in, one_in, two_in, row_handed}
+use Rattle.file_writer.specs.Tests.{rules_fit, pair_in, last_in, scope_in, last_scope_in}
+use Rattle.file_bytes.proofs.RecordLaws.{start_least, length_head, length_front, length_body, length_records, length_bytes, variables-row, constraints-row, ternaries-row}
+use Rattle.file_bytes.proofs.WalkLaws.{start_first, start_next}
+use Rattle.file_writer.proofs.Writable.{Writable, sized, numbers_low}
+use Rattle.file_round_trip.proofs.Held.{StandsAt, whole, left, right, joined_in, mark_is, not_first, variable_universal, variable_domain, variable_held, constraint_long, constraint_mark, constraint_one_lem, constraint_two_lem, constraint_row_lem, ternary_long, ternary_mark, ternary_number}
 
 -- A constraint that fits still does where its numbers, and the domains of the variables, are named otherwise.
 pub fits_same : (domain domain' : ℕ → ℕ) (n last last' i i' j j' : ℕ) (row row' : ℕ → ℕ) → last ≡ last' → i ≡ i' → j ≡ j' →
@@ -35,6 +37,12 @@ fits_same domain domain' n last last' i i' j j' row row' el ei ej ed er t =
           let y : domain j ≡ domain' j' = ed j t.below ∙ ap domain' ej in
           rw (← x, ← y, ← er a l) (t.rows a l);
     }
+
+-- So does a three-way constraint.
+pub ternary_fits_same : (domain domain' : ℕ → ℕ) (n last last' : ℕ) (x x' : ℕ → ℕ) → last ≡ last' → ((k : ℕ) → k < n → domain k ≡ domain' k) →
+    ((k : ℕ) → k < 4 + 3 * x 3 → x k ≡ x' k) → TernaryFits domain n last x → TernaryFits domain' n last' x'
+ternary_fits_same domain domain' n last last' x x' el ed ex t =
+    rw (← el) (ternary_out domain' n last x' (sym (ternary_eq domain domain' n last x x' ed ex) ∙ ternary_passes domain n last x t))
 
 -- ---- the rule set
 
@@ -99,10 +107,25 @@ module _ (x : Handed) (room : ℕ) (ok : Writable x room) where
   q : ℕ
   q = start_of rules + 4 * n
 
+  abbrev xs : List ℕ
+  xs = x.ternaries
+
+  abbrev t : ℕ
+  t = count_in xs
+
+  R : List ℕ
+  R = ternaries_in x
+
+  b : ℕ
+  b = start_of rules + 4 * n + 36 * m
+
   -- The parts stand one behind another.
+  behind_all : StandsAt F 0 (((H ++ S) ++ C) ++ R)
+  unfolding bytes_of H S C R
+  behind_all = left F 0 (((H ++ S) ++ C) ++ R) (mark_bytes EN) (whole F)
+
   front : StandsAt F 0 (H ++ S)
-  unfolding bytes_of H S C
-  front = left F 0 (H ++ S) C (left F 0 ((H ++ S) ++ C) (mark_bytes EN) (whole F))
+  front = left F 0 (H ++ S) C (left F 0 ((H ++ S) ++ C) R behind_all)
 
   head : StandsAt F 0 H
   head = left F 0 H S front
@@ -112,16 +135,20 @@ module _ (x : Handed) (room : ℕ) (ok : Writable x room) where
   variables = right F 0 _ H S (zero-add _ ∙ length_head n m rules) front
 
   cons : StandsAt F q C
-  unfolding bytes_of H S C q
-  cons = right F 0 _ (H ++ S) C (zero-add _ ∙ length_front x) (left F 0 ((H ++ S) ++ C) (mark_bytes EN) (whole F))
+  unfolding H S C q
+  cons = right F 0 _ (H ++ S) C (zero-add _ ∙ length_front x) (left F 0 ((H ++ S) ++ C) R behind_all)
 
-  end : StandsAt F (q + 36 * m) (mark_bytes EN)
-  unfolding bytes_of H S C q
-  end = right F 0 _ ((H ++ S) ++ C) (mark_bytes EN) (zero-add _ ∙ length_body x) (whole F)
+  terns : StandsAt F b R
+  unfolding H S C b
+  terns = right F 0 _ ((H ++ S) ++ C) R (zero-add _ ∙ length_body x) behind_all
 
-  size : length F ≡ q + 36 * m + 2
-  unfolding q length_of
-  size = length_bytes x
+  end : StandsAt F (b + (length xs + 2 * t)) (mark_bytes EN)
+  unfolding bytes_of H S C R b
+  end = right F 0 _ (((H ++ S) ++ C) ++ R) (mark_bytes EN) (zero-add _ ∙ length_records x (sized ok)) (whole F)
+
+  size : length F ≡ b + (length xs + 2 * t) + 2
+  unfolding b length_of
+  size = length_bytes x (sized ok)
 
   -- Each variable and each constraint stands at its place.
   variable : (i : ℕ) → i < n → StandsAt F (s + 4 * i) (variable_bytes (universal i) (domain i))
@@ -174,9 +201,9 @@ module _ (x : Handed) (room : ℕ) (ok : Writable x room) where
   unfolding constraints_at q s
   behind = omega (arith, start, n_is)
 
-  ending : end_at F ≡ q + 36 * m
-  unfolding end_at after_constraints
-  ending = omega (arith, behind, m_is)
+  after : after_constraints F ≡ b
+  unfolding after_constraints b q
+  after = omega (arith, behind, m_is)
 
   -- Variable i.
   pub file-domain : (i : ℕ) → i < n → domain_at F (variables_at F) i ≡ domain i
@@ -213,12 +240,86 @@ module _ (x : Handed) (room : ℕ) (ok : Writable x room) where
             (last_is t h) (sym (one_is t h)) (sym (two_is t h)) (λ k l. sym (file-domain k l)) (λ a l. sym (row_is t a h l)) (ok.fits t h);
       }
 
-  start-low : 5 ≤ q
-  unfolding q
+  start-low : 5 ≤ b
+  unfolding b
   start-low = omega (arith, start_least rules)
 
   not_zero : (i : ℕ) → i < n → domain i ≡ 0 → ⊥
   not_zero = ok.some
+
+  -- Three-way constraint r: its bytes are its numbers, and it stands behind those before it.
+  ternary : (r : ℕ) → r < t → StandsAt F (b + (start_in xs r + 2 * r)) (ternary_in xs r)
+  unfolding R
+  ternary r h = joined_in F _ b _ t r (ternaries-row xs b t) terns h
+
+  number_is : (r k : ℕ) → r < t → k < size_in xs (start_in xs r) → number_at F (b + (start_in xs r + 2 * r)) k ≡ from xs (start_in xs r) k
+  unfolding ternary_in
+  number_is r k h l =
+      ternary_number F _ _ _ (ternary r h) k l ∙ omega (arith, numbers_low ok r k h l)
+
+  body_is : (r : ℕ) → r < t → body_at F (b + (start_in xs r + 2 * r)) ≡ size_in xs (start_in xs r)
+  unfolding body_at size_in
+  body_is r h = ap (λ (c : ℕ). 4 + 3 * c) (number_is r 3 h (omega arith))
+
+  place_is : (r : ℕ) → r ≤ t → ternary_at F b r ≡ b + (start_in xs r + 2 * r)
+  unfolding ternary_at
+  place_is zero h = omega (arith, start_first xs)
+  place_is (suc r) h =
+      let e = place_is r (omega arith) in
+      rw e (omega (arith, body_is r (omega arith), start_next xs r))
+
+  -- So they are those that are counted: as many marks stand in a row, and then `EN`.
+  stands_marked : (r : ℕ) → r < t → marked F (ternary_at F b r) TT ≡ true
+  unfolding ternary_in
+  stands_marked r h = rw (place_is r (omega arith)) (ternary_mark F _ _ _ (ternary r h))
+
+  end_is : ternary_at F b t ≡ b + (length xs + 2 * t)
+  end_is = place_is t (le_refl t) ∙ omega (arith, ok.whole)
+
+  not_another : marked F (ternary_at F b t) TT ≡ false
+  unfolding mark_bytes
+  not_another =
+      rw end_is
+      (not_first F _ TT
+      (λ e.
+      let a : get_or F (b + (length xs + 2 * t) + 0) 0 ≡ 69 = end.same 0 (omega arith) in
+      let z : b + (length xs + 2 * t) ≡ b + (length xs + 2 * t) + 0 = omega arith in
+      let y : get_or F (b + (length xs + 2 * t)) 0 ≡ 69 = rw z a in
+      omega arith))
+
+  t_is : t_of F ≡ t
+  unfolding t_of
+  t_is = rw after (leading_is F b 33 t (leading_all F b 33 t (omega (arith, ok.few)) stands_marked) not_another)
+
+  ending : end_at F ≡ b + (length xs + 2 * t)
+  unfolding end_at
+  ending = rw (t_is, after) end_is
+
+  -- The three variables before it.
+  last_scope_is : (r : ℕ) → r < t → last_scope_in xs r ≡ last_scope F b r
+  unfolding last_scope_in last_scope scope_in scope_at size_in
+  last_scope_is zero h = refl
+  last_scope_is (suc r) h =
+      let l : r < t = omega arith in
+      sym (rw (place_is r (omega arith), number_is r 0 l (omega arith), number_is r 1 l (omega arith), number_is r 2 l (omega arith)) refl)
+
+  ternary_within : (r : ℕ) → r < t → b + (start_in xs r + 2 * r) + 2 + size_in xs (start_in xs r) ≤ length F
+  unfolding ternary_in
+  ternary_within r h = ternary_long F _ _ _ (ternary r h)
+
+  ternary_held : (r : ℕ) → r < t → Ternary F (variables_at F) n (last_scope F b r) r (ternary_at F b r)
+  unfolding size_in
+  ternary_held r h =
+      let p = b + (start_in xs r + 2 * r) in
+      let e = place_is r (omega arith) in
+      record {
+        within = rw e (omega (arith, body_is r h, ternary_within r h));
+        few = omega (arith, ok.few);
+        fits =
+            rw e
+            (ternary_fits_same domain (domain_at F (variables_at F)) n _ _ (from xs (start_in xs r)) (number_at F p)
+            (last_scope_is r h) (λ k l. sym (file-domain k l)) (λ k l. sym (number_is r k h l)) (ok.triples r h));
+      }
 
   -- The file is accepted.
   held : Accepted F
@@ -230,12 +331,24 @@ module _ (x : Handed) (room : ℕ) (ok : Writable x room) where
             rw start
             (variable_held F (s + 4 * i) (universal i) (domain i) (variable i (rw n_is at h)) (not_zero i (rw n_is at h)));
         constraint = λ t h. rw (n_is, behind) (constraint_held t (rw m_is at h));
+        ternary = λ r h. rw (n_is, after) (ternary_held r (rw t_is at h));
         size = rw ending size;
         ends = rw ending (mark_is F _ EN end);
       }
 
   pub file_fine : verdict_of F ≡ Fine
   file_fine = accept F held
+
+  -- The three-way constraints by their numbers.
+  pub file_t : t_of F ≡ t
+  file_t = t_is
+
+  pub file-body : (r : ℕ) → r < t → body_at F (ternary_at F (after_constraints F) r) ≡ size_in xs (start_in xs r)
+  file-body r h = rw (after, place_is r (omega arith)) (body_is r h)
+
+  pub file-number : (r k : ℕ) → r < t → k < size_in xs (start_in xs r) →
+      number_at F (ternary_at F (after_constraints F) r) k ≡ from xs (start_in xs r) k
+  file-number r k h l = rw (after, place_is r (omega arith)) (number_is r k h l)
 
   -- The numbers by their places in the file.
   pub file-one : (t : ℕ) → t < m → one_at F (constraints_at F + 36 * t) ≡ one_in x.constraints t

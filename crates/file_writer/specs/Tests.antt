@@ -1,11 +1,11 @@
 -- The writer's tests. It refuses by number alone.
-use Rattle.std.specs.Prelude.{ℕ, zero, suc, ◌*◌, ◌^◌, Bool, true, ◌&&◌, not, List, length, leb, ltb, eqb, Option, None, Some}
+use Rattle.std.specs.Prelude.{ℕ, zero, suc, ◌+◌, ◌*◌, ◌^◌, Bool, true, ◌&&◌, not, List, length, leb, ltb, eqb, Option, None, Some}
 use Rattle.mask.specs.Range.{each}
-use Rattle.refusal.specs.declared.reason.Reason.TheVariants.{Count, Domain, Rules, Variable, Room, Lent}
+use Rattle.refusal.specs.declared.reason.Reason.TheVariants.{Count, Domain, Rules, Variable, Room, Lent, Triple, Many}
 use Rattle.refusal.specs.Chain.{Test, Fine, ◌then◌, need}
 use Rattle.rule_set.specs.RuleSet.{is_rule_set}
-use Rattle.file_layout.specs.Numbers.{counts_fit, pair_of, constraint_fits}
-use Rattle.file_bytes.specs.Bytes.{Handed, domain_in, one_in, two_in, row_handed, length_of}
+use Rattle.file_layout.specs.Numbers.{counts_fit, pair_of, constraint_fits, scope_of, ternary_fits}
+use Rattle.file_bytes.specs.Bytes.{Handed, domain_in, one_in, two_in, row_handed, from, start_in, count_in, whole_records, length_of}
 
 -- n domains, and 18 numbers a constraint: of lists of these lengths.
 unfoldable pub lists_fit : ℕ → ℕ → ℕ → ℕ → Bool
@@ -34,18 +34,35 @@ constraints_test domain n constraints (suc k) =
     constraints_test domain n constraints k
     then constraint_fits domain n (last_in constraints k) (one_in constraints k) (two_in constraints k) (row_handed constraints k)
 
--- What is tested of lists of the right lengths: 8, 11, 4 to 7 record by record, 12.
+-- The three variables of record q as one number, and of the record before record q (0 if there is none).
+unfoldable pub scope_in : List ℕ → ℕ → ℕ
+scope_in xs q = let p = start_in xs q in scope_of (from xs p 0) (from xs p 1) (from xs p 2)
+
+unfoldable pub last_scope_in : List ℕ → ℕ → ℕ
+last_scope_in xs zero = 0
+last_scope_in xs (suc q) = scope_in xs q
+
+-- 27, 26 for each three-way constraint, by the test that the reader makes of a file: the first k of them.
+unfoldable pub ternaries_test : (ℕ → ℕ) → ℕ → List ℕ → ℕ → Test
+ternaries_test domain n xs zero = Fine
+ternaries_test domain n xs (suc k) =
+    ternaries_test domain n xs k
+    then need (leb (n + k + 1) 32) Many
+    then need (ternary_fits domain n (last_scope_in xs k) (from xs (start_in xs k))) Triple
+
+-- What is tested of lists of the right lengths: 8, 11, 4 to 7 record by record, 27 and 26 record by record, 12.
 unfoldable pub rest_test : Handed → ℕ → Test
 rest_test h room =
     need (rules_fit h.rules) Rules
     then need (ltb h.universal (2 ^ h.n)) Variable
     then need (domains_fit (domain_in h.domains) h.n) Domain
     then constraints_test (domain_in h.domains) h.n h.constraints h.m
+    then ternaries_test (domain_in h.domains) h.n h.ternaries (count_in h.ternaries)
     then need (leb (length_of h) room) Room
 
 -- All tests in their order: 3, 13, and the others.
 unfoldable pub write_test : Handed → ℕ → Test
 write_test h room =
     need (counts_fit h.n h.m) Count
-    then need (lists_fit h.n h.m (length h.domains) (length h.constraints)) Lent
+    then need (lists_fit h.n h.m (length h.domains) (length h.constraints) && whole_records h.ternaries) Lent
     then rest_test h room

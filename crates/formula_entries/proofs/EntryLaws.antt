@@ -25,9 +25,10 @@ use Rattle.buffer.proofs.StoredLaws.{stored-start}
 use Rattle.solver_arrays.specs.declared.arrays.Arrays.{Arrays}
 use Rattle.solver_arrays.specs.Arrays.{Poses}
 use Rattle.file_reader.specs.Reading.{verdict_of}
-use Rattle.file_reader.proofs.Accepted.{variables-some, variables_most}
-use Rattle.file_decoder.specs.FileProblem.{problem_of, ordinary_of}
-use Rattle.file_decoder.specs.Decoded.{FileGiven}
+use Rattle.file_reader.proofs.Accepted.{variables-some, variables_and_ternaries}
+use Rattle.ternary_theory.specs.Expanded.{expanded}
+use Rattle.file_decoder.specs.FileProblem.{problem_of, ternary_of, ordinary_of}
+use Rattle.ternary_decoder.specs.Decoded.{OrdinaryGiven}
 use Rattle.file_decoder.proofs.ReadLaws.{read_fine, read_refused}
 use Rattle.formula.specs.Formula.{judge_formula}
 use Rattle.formula.specs.Encoding.{formula_of}
@@ -69,7 +70,7 @@ module _ (f : List ℕ) (e : Fault) (q : verdict_of f ≡ Err e) where
   unfolding formula_left
   refused-left buf = sym (read_refused f _ _ e q)
 
-module _ (f : List ℕ) (A : Arrays) (g : FileGiven f A) where
+module _ (f : List ℕ) (A : Arrays) (g : OrdinaryGiven f A) where
   pub file_writes : (buf buf' : List ℕ) (r : Result ℕ Reason) → Writes A buf buf' r → (told_by length_values reason_told r ≡ formula_told f (length buf)) × (buf' ≡ formula_left f buf)
   unfolding formula_told formula_left
   file_writes buf buf' r w =
@@ -156,12 +157,12 @@ module _ (f buf buf' : List ℕ) (k : ℕ) (w : Wrote f (length buf) k) (left : 
   text = text_for (ordinary_of f w.fine)
 
   size-some : 0 < (ordinary_of f w.fine).n
-  unfolding ordinary_of problem_of
-  size-some = variables-some f w.fine
+  unfolding ordinary_of expanded ternary_of problem_of
+  size-some = omega (arith, variables-some f w.fine)
 
   size_most : (ordinary_of f w.fine).n ≤ 32
-  unfolding ordinary_of problem_of
-  size_most = variables_most f w.fine
+  unfolding ordinary_of expanded ternary_of problem_of
+  size_most = variables_and_ternaries f w.fine
 
   fits : length text ≤ length buf
   unfolding formula_test text_test

@@ -1,15 +1,15 @@
 // A problem file as the text of a quantified boolean formula (QDIMACS), and that text judged (document 02, card 1). It rests on
-// `file_decoder`, `formula_text` and `formula_judge`. `write_formula` and `judge_formula` are open to callers.
+// `ternary_decoder`, `formula_text` and `formula_judge`. `write_formula` and `judge_formula` are open to callers.
 #![tactic(auto)]
 
 ghost use Rattle.std.specs.Prelude.{◌≡◌, length};
 ghost use Rattle.formula_entries.specs.Told.{told, formula_told, formula_left, Writes, told_judged, judge_formula_told};
 
-use file_decoder::decode;
 use formula_judge::judge_text;
 use formula_text::{measure, put_formula};
 use refusal::{Reason, Refusal, needed};
 use solver_arrays::Arrays;
+use ternary_decoder::decode_ordinary;
 
 // Whether the formula is won, and the length of its text.
 #[derive(Clone, Copy, Default)]
@@ -33,7 +33,7 @@ pub fn write_formula(f: &[u8], buf: &mut [u8]) -> Result<usize, Refusal>
     ensures result_value { told result ≡ formula_told f.now (length buf.old) }
     ensures buf_after { buf.new ≡ formula_left f.now buf.old }
 {
-    let arrays = decode(f)?;
+    let arrays = decode_ordinary(f)?;
     Ok(write_in(&arrays, buf)?)
 }
 

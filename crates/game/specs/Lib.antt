@@ -42,3 +42,5 @@ pub mod Search
 pub mod Turns
 -- Rule 7's sentence as a turn ("an untried option of a day's choice is skipped if, and only if, ..").
 pub mod Skipping
+-- Three-way constraints, and the game with them (document 02, card 7).
+pub mod Ternary

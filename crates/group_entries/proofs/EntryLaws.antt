@@ -19,12 +19,12 @@ use Rattle.buffer.specs.Stored.{stored}
 use Rattle.solver_arrays.specs.declared.arrays.Arrays.{Arrays}
 use Rattle.solver_arrays.specs.Arrays.{Poses, Posed}
 use Rattle.file_reader.specs.declared.Head.{Head}
-use Rattle.file_reader.specs.Reading.{verdict_of, head_of}
+use Rattle.file_reader.specs.Reading.{verdict_of}
 use Rattle.file_reader.proofs.Accepted.{Shows, accepted, head_is}
 use Rattle.file_writer.specs.Tests.{rules_fit}
 use Rattle.file_round_trip.proofs.RoundTrip.{rules_shown}
 use Rattle.file_decoder.specs.FileProblem.{ordinary_of}
-use Rattle.file_decoder.specs.Decoded.{FileGiven}
+use Rattle.ternary_decoder.specs.Decoded.{OrdinaryGiven}
 use Rattle.file_decoder.proofs.ReadLaws.{read_fine, read_refused}
 use Rattle.group.specs.Groups.{groups}
 use Rattle.group.specs.GroupProblem.{group_problem, group_file}
@@ -78,7 +78,7 @@ module _ (f : List ℕ) (e : Fault) (q : verdict_of f ≡ Err e) where
   unfolding write_group_left
   refused_left g buf = sym (read_refused f _ _ e q)
 
-module _ (f : List ℕ) (A : Arrays) (given : FileGiven f A) where
+module _ (f : List ℕ) (A : Arrays) (given : OrdinaryGiven f A) where
   pub file_groups : (r : Groups) → GroupsOf A r → (told_groups (Ok r) ≡ groups_told f) × (groups_shown (Ok r) ≡ groups_listed f)
   unfolding groups_told groups_listed
   file_groups r of =

@@ -19,7 +19,7 @@ use Rattle.group.specs.Groups.{group_of, groups}
 use Rattle.group.specs.GroupProblem.{group_file}
 use Rattle.group_labels.specs.declared.Groups.{Groups}
 
--- ---- the list: how many groups there are; the group of each variable, in 32 places, zero at n and above and for a refused file
+-- ---- the list: how many groups there are; the group of each variable, in 32 places, zero at n and above, n of the ordinary problem, and for a refused file
 
 abbrev pub told_groups : Result Groups Fault → Told
 told_groups = told_by (λ (r : Groups). r.count ∷ []) fault_told

@@ -1,4 +1,4 @@
-// The groups of a problem file, and one group as a file of its own (document 02, card 4). It rests on `file_decoder`, `group_labels`,
+// The groups of a problem file, and one group as a file of its own (document 02, card 4). It rests on `ternary_decoder`, `group_labels`,
 // `group_arrays` and `problem_writer`. `groups` and `write_group` are open to callers.
 #![tactic(auto)]
 
@@ -7,20 +7,20 @@ ghost use Rattle.solver_arrays.specs.Arrays.{Posed};
 ghost use Rattle.file_writer.specs.Tests.{rules_fit};
 ghost use Rattle.group_entries.specs.Told.{told_groups, groups_shown, groups_told, groups_listed, told, WritesGroup, write_group_told, write_group_left};
 
-use file_decoder::decode;
 use file_reader::read;
 use group_arrays::select;
 use group_labels::{Groups, groups_in};
 use problem_writer::write_problem;
 use refusal::{Fault, Reason, Refusal, needed};
 use solver_arrays::Arrays;
+use ternary_decoder::decode_ordinary;
 
-// The groups of the file's variables.
+// The groups of the variables of the file's ordinary problem.
 pub fn groups(f: &[u8]) -> Result<Groups, Fault>
     ensures told { told_groups result ≡ groups_told f.now }
     ensures shown { groups_shown result ≡ groups_listed f.now }
 {
-    let arrays = decode(f)?;
+    let arrays = decode_ordinary(f)?;
     Ok(groups_in(&arrays))
 }
 
@@ -48,5 +48,5 @@ pub fn write_group(f: &[u8], g: usize, buf: &mut [u8]) -> Result<usize, Refusal>
     ensures buf_after { buf.new ≡ write_group_left f.now g buf.old }
 {
     let reading = read(f)?;
-    Ok(write_in(&mut decode(f)?, reading.head.rules, g, buf)?)
+    Ok(write_in(&mut decode_ordinary(f)?, reading.head.rules, g, buf)?)
 }

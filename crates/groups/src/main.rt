@@ -19,7 +19,8 @@ const TEXT: usize = 4096;
 fn text_of(f: &[u8], text: &mut [u8; TEXT]) -> Result<usize, Fault> {
     let reading = read(f)?;
     let list = groups(f)?;
-    let n = (reading.head.n as usize).min(32);
+    // The variables of its ordinary problem, which are at most 32.
+    let n = (reading.head.n as usize + reading.head.t as usize).min(32);
     Ok(render_groups(n, &list, text))
 }
 

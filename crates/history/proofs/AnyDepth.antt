@@ -8,7 +8,8 @@ use Rattle.refusal.specs.declared.reason.Refusal.{Refusal}
 use Rattle.refusal.specs.declared.reason.Refusal.TheVariants.{InFile}
 use Rattle.refusal.specs.Told.{Told, fault_told, in_call}
 use Rattle.game.specs.Problem.{Problem}
-use Rattle.file_decoder.specs.Read.{read_first}
+use Rattle.game.specs.Ternary.{TernaryProblem}
+use Rattle.file_decoder.specs.Read.{read_first, read_ternary}
 use Rattle.position.specs.declared.Position.{Position}
 use Rattle.position.specs.Position.{held, plays_of, fits_in, fit_test}
 use Rattle.position.proofs.Fitting.{fits_any_depth}
@@ -31,17 +32,19 @@ module _ (p : Position) (d : ℕ) (now : p.depth ≤ p.plays) (next : d ≤ p.pl
     unfolding open_in fit_test plays_of held
     open_same = rw fits_either refl
 
-    judge_same : (set words : ℕ) → judge_reply P (held p d) set words ≡ judge_reply P p set words
+  -- Over a problem with three-way constraints.
+  module _ (J : TernaryProblem) where
+    judge_same : (set words : ℕ) → judge_reply J (held p d) set words ≡ judge_reply J p set words
     unfolding judge_reply judge_test position_test plays_of held
-    judge_same set words = rw fits_either refl
+    judge_same set words = rw (fits_either J.binary) refl
 
-    mark_same : (set words : ℕ) → mark_reply P (held p d) set words ≡ mark_reply P p set words
+    mark_same : (set words : ℕ) → mark_reply J (held p d) set words ≡ mark_reply J p set words
     unfolding mark_reply mark_test position_test plays_of held
-    mark_same set words = rw fits_either refl
+    mark_same set words = rw (fits_either J.binary) refl
 
-    search_same : (set words : ℕ) → search_reply P (held p d) set words ≡ search_reply P p set words
+    search_same : (set words : ℕ) → search_reply J (held p d) set words ≡ search_reply J p set words
     unfolding search_reply search_findings judge_test position_test plays_of held
-    search_same set words = rw fits_either refl
+    search_same set words = rw (fits_either J.binary) refl
 
   -- Over a file, whatever it is.
   module _ (f : List ℕ) where
@@ -56,12 +59,12 @@ module _ (p : Position) (d : ℕ) (now : p.depth ≤ p.plays) (next : d ≤ p.pl
     module _ (set words : ℕ) where
       pub judge_any_depth : judge_told f (held p d) set words ≡ judge_told f p set words
       unfolding judge_told
-      judge_any_depth = ap (λ (r : Problem → Told). read_first f fault_told r) (fun_ext (λ P. judge_same P set words))
+      judge_any_depth = ap (λ (r : TernaryProblem → Told). read_ternary f fault_told r) (fun_ext (λ J. judge_same J set words))
 
       pub mark_any_depth : mark_told f (held p d) set words ≡ mark_told f p set words
       unfolding mark_told
-      mark_any_depth = ap (λ (r : Problem → Told). read_first f fault_told r) (fun_ext (λ P. mark_same P set words))
+      mark_any_depth = ap (λ (r : TernaryProblem → Told). read_ternary f fault_told r) (fun_ext (λ J. mark_same J set words))
 
       pub search_any_depth : search_found f (held p d) set words ≡ search_found f p set words
       unfolding search_found
-      search_any_depth = ap (λ (r : Problem → Findings). read_first f (λ e. nothing (fault_told e)) r) (fun_ext (λ P. search_same P set words))
+      search_any_depth = ap (λ (r : TernaryProblem → Findings). read_ternary f (λ e. nothing (fault_told e)) r) (fun_ext (λ J. search_same J set words))

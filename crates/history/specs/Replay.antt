@@ -4,11 +4,10 @@ use Rattle.refusal.specs.Chain.{Fine}
 use Rattle.refusal.specs.Told.{Told, replied, refused}
 use Rattle.rule_set.specs.RuleSet.{greatest_set}
 use Rattle.file_records.specs.Records.{verdict_of}
-use Rattle.game.specs.Problem.{Problem}
+use Rattle.game.specs.Ternary.{TernaryProblem, ternary_winning}
 use Rattle.game.specs.Calls.{Call, play, take_back, lock, unlock, PlainList, after_call, standing}
-use Rattle.game.specs.Winning.{winning_values}
-use Rattle.file_decoder.specs.FileProblem.{problem_of}
-use Rattle.search_run.specs.Run.{room_needed}
+use Rattle.file_decoder.specs.FileProblem.{ternary_of}
+use Rattle.judging.specs.Tests.{room_for}
 use Rattle.position.specs.declared.Position.{Position}
 use Rattle.position.specs.Position.{shown}
 use Rattle.session.specs.History.{call_told, step, list_told, list_opened}
@@ -32,22 +31,22 @@ as_call (Unlock k) = unlock k
 
 -- The marks of the game with the plays l: "each value of the next variable's domain winning exactly when the published game is won with it
 -- played" after them; "22 Done: marks asked when all are played".
-unfoldable pub list_marked : Problem → List ℕ → Told
-list_marked P l = cond (ltb (length l) P.n) (replied (winning_values P l ∷ get_or P.domain (length l) 0 ∷ [])) (refused 22)
+unfoldable pub list_marked : TernaryProblem → List ℕ → Told
+list_marked J l = cond (ltb (length l) J.binary.n) (replied (ternary_winning J l ∷ get_or J.binary.domain (length l) 0 ∷ [])) (refused 22)
 
 -- All is as the plain list s has it: the position `at`, its replies `marks` and `opened`, and what the next call tells and leaves.
-pub record AsPlain (f : List ℕ) (P : Problem) (s : PlainList) (set words : ℕ) (at : Position) (marks opened : Told) : Type 0 where
+pub record AsPlain (f : List ℕ) (J : TernaryProblem) (s : PlainList) (set words : ℕ) (at : Position) (marks opened : Told) : Type 0 where
   -- The position shows the plays that stand, and the depth.
   pub shows : at ≡ shown s.depth s.plays
   -- The replies are those of a fresh problem with only these plays, in order; the same marks under every rule set, given the room that a marking takes.
-  pub marked : set ≤ greatest_set → room_needed P ≤ words → marks ≡ list_marked P s.plays
-  pub opens : opened ≡ list_opened P s.plays
+  pub marked : set ≤ greatest_set → room_for J ≤ words → marks ≡ list_marked J s.plays
+  pub opens : opened ≡ list_opened J.binary s.plays
   -- The next call, whichever it is, tells what the plain list says; one that is refused leaves the position, the plays and the depth.
-  pub tells : (c : Call) → call_told f at c ≡ list_told P s c
-  pub stays : (c : Call) (e : ℕ) → call_told f at c ≡ refused e → (step f at c ≡ at) × (after_call P s c ≡ s)
+  pub tells : (c : Call) → call_told f at c ≡ list_told J.binary s c
+  pub stays : (c : Call) (e : ℕ) → call_told f at c ≡ refused e → (step f at c ≡ at) × (after_call J.binary s c ≡ s)
 
 -- Document 00, demand 3, of the position that calls reach and its replies: all is as the plain list has it, which is fed the file and the calls alone.
 abbrev pub Demand3 : (f : List ℕ) (fine : verdict_of f ≡ Fine) (calls : List Call) (set words : ℕ) (at : Position) (marks opened : Told) → Type 0
 Demand3 f fine calls set words at marks opened =
-    let P = problem_of f fine in
-    AsPlain f P (standing P calls) set words at marks opened
+    let J = ternary_of f fine in
+    AsPlain f J (standing J.binary calls) set words at marks opened

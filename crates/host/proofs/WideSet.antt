@@ -1,6 +1,6 @@
 -- A rule set that no byte holds is refused as 255 is, so the writer's byte loses nothing: what it tells and leaves is that of the whole number.
 use mathlib.Core.Path.{◌≡◌, refl, sym, ap, ◌∙◌}
-use mathlib.Core.Bool.{Bool, true, false, cond}
+use mathlib.Core.Bool.{Bool, true, false, cond, ◌&&◌}
 use mathlib.Core.List.{List, [], ◌∷◌}
 use Prim.Native.Nat.{ℕ, ◌≤◌, ◌<◌}
 use native.Mathlib.Omega.{arith}
@@ -16,7 +16,7 @@ use Rattle.refusal.proofs.Chain.{stop}
 use Rattle.rule_set.specs.RuleSet.{is_rule_set, greatest_set}
 use Rattle.file_layout.specs.Numbers.{counts_fit}
 use Rattle.buffer.specs.Stored.{stored}
-use Rattle.file_bytes.specs.Bytes.{Handed, handed, bytes_of}
+use Rattle.file_bytes.specs.Bytes.{whole_records, Handed, handed, bytes_of}
 use Rattle.file_writer.specs.Tests.{lists_fit, rules_fit, rest_test, write_test}
 use Rattle.file_writer.specs.Writing.{write_told, write_buffer}
 use Rattle.host.specs.Handed.{set_handed, byte_handed}
@@ -48,14 +48,18 @@ byte_same g given rules same = by_lt rules 256 (λ h. rw (lt-ltb rules 256 h) re
     by_given h true = refl
     by_given h false = same 255 rules (omega arith) (omega arith)
 
-module _ (n m universal : ℕ) (domains constraints : List ℕ) where
+module _ (n m universal : ℕ) (domains constraints ternaries : List ℕ) where
   abbrev with_set : Option ℕ → Handed
-  with_set rules = handed n m rules universal domains constraints
+  with_set rules = handed n m rules universal domains constraints ternaries
 
-  wide_test : (r room : ℕ) → greatest_set < r → write_test (with_set (Some r)) room ≡ ends_8 (counts_fit n m) (lists_fit n m (length domains) (length constraints))
+  -- Whether the lists are as long as they have to be.
+  abbrev lists_whole : Bool
+  lists_whole = lists_fit n m (length domains) (length constraints) && whole_records ternaries
+
+  wide_test : (r room : ℕ) → greatest_set < r → write_test (with_set (Some r)) room ≡ ends_8 (counts_fit n m) lists_whole
   unfolding write_test rest_test rules_fit is_rule_set need
   wide_test r room h =
-      ap (λ (t : Test). need (counts_fit n m) Count then need (lists_fit n m (length domains) (length constraints)) Lent then t)
+      ap (λ (t : Test). need (counts_fit n m) Count then need lists_whole Lent then t)
       (stop _ _ Rules (ap (λ (b : Bool). need b Rules) (lt-leb r greatest_set h)))
 
   pub byte-told : (given rules room : ℕ) → write_told (with_set (byte_handed given rules)) room ≡ write_told (with_set (set_handed given rules)) room

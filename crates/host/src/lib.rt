@@ -6,6 +6,7 @@
 ghost use Rattle.std.specs.Prelude.{◌≡◌, length};
 ghost use Rattle.file_reader.specs.Reading.{header_of, domains_of};
 ghost use Rattle.file_lookup.specs.Lookup.{look_up};
+ghost use Rattle.file_lookup.specs.Ternary.{look_up_ternary};
 ghost use Rattle.file_bytes.specs.Bytes.{handed};
 ghost use Rattle.file_writer.specs.Writing.{write_told, write_buffer};
 ghost use Rattle.formula_entries.specs.Told.{formula_told, formula_left, judge_formula_told};
@@ -17,8 +18,8 @@ ghost use Rattle.search_run.specs.Run.{held_room};
 ghost use Rattle.judging.specs.Judging.{judge_told, judge_left};
 ghost use Rattle.judging.specs.Searching.{search_found};
 ghost use Rattle.marking.specs.Marking.{mark_told, mark_left};
-ghost use Rattle.host_replies.specs.Replies.{read_file_of, found_of, written_of, answer_of, moved_of, opened_of, judgement_of, marks_of};
-ghost use Rattle.host_replies.specs.Replies.{searched_of, ruled_of, checked_of, looked_of, named_of, values_of, formula_judgement_of, group_list_of};
+ghost use Rattle.host_replies.specs.Replies.{read_file_of, found_of, found_body_of, written_of, answer_of, moved_of, opened_of, judgement_of};
+ghost use Rattle.host_replies.specs.Replies.{marks_of, searched_of, ruled_of, checked_of, looked_of, named_of, values_of, formula_judgement_of, group_list_of};
 ghost use Rattle.host.specs.Unpack.{unpack};
 ghost use Rattle.host.specs.Handed.{set_handed};
 ghost use Rattle.host.specs.Text.{text_told, text_left};
@@ -28,7 +29,7 @@ mod handed;
 mod text;
 mod unpack;
 
-use file_lookup::look_up;
+use file_lookup::{look_up, look_up_ternary};
 use file_reader::read;
 use file_writer::write;
 use formula_entries::{judge_formula, write_formula};
@@ -36,9 +37,9 @@ use group_entries::{groups, write_group};
 use handed::set_handed;
 use history::replay;
 use host_replies::{
-    CallAnswer, CheckedList, FormulaJudgement, FoundRows, GroupList, Judgement, LookedAhead, Marks,
-    MovedPosition, NamedValues, OpenMasks, ReadFile, ReplayedCalls, RuledList, SearchFindings,
-    ValueMask, WrittenBytes, moved_shown,
+    CallAnswer, CheckedList, FormulaJudgement, FoundBody, FoundRows, GroupList, Judgement,
+    LookedAhead, Marks, MovedPosition, NamedValues, OpenMasks, ReadFile, ReplayedCalls, RuledList,
+    SearchFindings, ValueMask, WrittenBytes, moved_shown,
 };
 use judging::{judge, search};
 use marking::mark;
@@ -53,9 +54,9 @@ use unpack::unpacked;
 // KB_INTERFACE of the header: raised by every change of a signature or a struct.
 #[unsafe(no_mangle)]
 pub extern "C" fn kb_interface() -> u64
-    ensures { result ≡ 6 }
+    ensures { result ≡ 7 }
 {
-    6
+    7
 }
 
 // Reads a file.
@@ -74,6 +75,14 @@ pub extern "C" fn kb_look_up(f: &[u8], i: u64, j: u64) -> FoundRows
     FoundRows::from(look_up(f, i as usize, j as usize))
 }
 
+// Looks up the three-way constraint of this number, counted from 0.
+#[unsafe(no_mangle)]
+pub extern "C" fn kb_look_up_triples(f: &[u8], number: u64) -> FoundBody
+    ensures { result ≡ found_body_of (look_up_ternary f.now number) }
+{
+    FoundBody::from(look_up_ternary(f, number as usize))
+}
+
 // Writes the file of these numbers; no rule set where `given` is 0.
 #[unsafe(no_mangle)]
 pub extern "C" fn kb_write(
@@ -85,12 +94,14 @@ pub extern "C" fn kb_write(
     universal: u64,
     domains: &[u16],
     constraints: &[u16],
+    ternaries: &[u16],
 ) -> WrittenBytes
     ensures value { result ≡ written_of
-        (write_told (handed n m (set_handed given rules) universal domains.now constraints.now)
+        (write_told
+        (handed n m (set_handed given rules) universal domains.now constraints.now ternaries.now)
         (length buf.old)) }
-    ensures buf_after { buf.new
-        ≡ write_buffer (handed n m (set_handed given rules) universal domains.now constraints.now)
+    ensures buf_after { buf.new ≡ write_buffer
+        (handed n m (set_handed given rules) universal domains.now constraints.now ternaries.now)
         buf.old }
 {
     let written = write(
@@ -101,6 +112,7 @@ pub extern "C" fn kb_write(
         universal,
         domains,
         constraints,
+        ternaries,
     );
     WrittenBytes::from(written.map_err(Refusal::InCall))
 }

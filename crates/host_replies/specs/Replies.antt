@@ -1,6 +1,6 @@
 -- What a call tells, as the fields of a reply to a C host: the kind (0 a finished reply, 1 refused by number, 2 a file's refusal with number
 -- and place), the number, the place and the values; a field that says nothing is 0.
-use Rattle.std.specs.Prelude.{ℕ, cond, List, length, drop, get_or}
+use Rattle.std.specs.Prelude.{ℕ, min, cond, List, length, drop, get_or}
 use Rattle.refusal.specs.Told.{Told, replied, refused, refused_at}
 use Rattle.file_reader.specs.Used.{set_used}
 use Rattle.position.specs.declared.Position.{Position}
@@ -8,6 +8,7 @@ use Rattle.rule_narrow.specs.declared.names.PureNames.{PureNames}
 use Rattle.judging.specs.Searching.{Findings}
 use Rattle.host_replies.specs.declared.files.ReadFile.{ReadFile}
 use Rattle.host_replies.specs.declared.files.FoundRows.{FoundRows}
+use Rattle.host_replies.specs.declared.files.FoundBody.{FoundBody}
 use Rattle.host_replies.specs.declared.files.WrittenBytes.{WrittenBytes}
 use Rattle.host_replies.specs.declared.calls.CallAnswer.{CallAnswer}
 use Rattle.host_replies.specs.declared.calls.MovedPosition.{MovedPosition}
@@ -51,19 +52,24 @@ count_from k (replied l) = length (drop k l)
 count_from k (refused e) = 0
 count_from k (refused_at e p) = 0
 
--- The rule set to judge by. Reading's values are n, m, the universal bits and the rule set, if the file names one.
+-- The rule set to judge by. Reading's values are n, m, t, the universal bits and the rule set, if the file names one.
 unfoldable pub rules_in : Told → ℕ
-rules_in (replied l) = set_used (drop 3 l)
+rules_in (replied l) = set_used (drop 4 l)
 rules_in (refused e) = 0
 rules_in (refused_at e p) = 0
 
 unfoldable pub read_file_of : Told → List ℕ → ReadFile
-read_file_of t domains =
-    record { kind = kind_of t; number = number_of t; place = place_of t; n = value_of t 0; m = value_of t 1; universal = value_of t 2; given = count_from 3 t; rules = rules_in t; domains = domains }
+read_file_of r domains =
+    record { kind = kind_of r; number = number_of r; place = place_of r; n = value_of r 0; m = value_of r 1; t = value_of r 2; universal = value_of r 3; given = count_from 4 r; rules = rules_in r; domains = domains }
 
 -- A look-up's one value is the place of the rows; where no constraint joins the pair it has none.
 unfoldable pub found_of : Told → FoundRows
 found_of t = record { kind = kind_of t; number = number_of t; place = place_of t; found = count_from 0 t; rows = value_of t 0 }
+
+-- The values of a look-up by place are where the body begins and how long it is; where there is no such record it has none.
+unfoldable pub found_body_of : Told → FoundBody
+found_body_of t =
+    record { kind = kind_of t; number = number_of t; place = place_of t; found = min 1 (count_from 0 t); body = value_of t 0; length = value_of t 1 }
 
 unfoldable pub written_of : Told → WrittenBytes
 written_of t = record { kind = kind_of t; number = number_of t; place = place_of t; length = value_of t 0 }

@@ -1,11 +1,13 @@
-// Replies of reading, look-up, and of what writes bytes into a buffer.
+// Replies of reading, of the two look-ups, and of what writes bytes into a buffer.
 ghost use Rattle.std.specs.Prelude.{◌≡◌, [], ◌∷◌};
 ghost use Rattle.refusal.specs.Told.{refusal_told, told_by};
 ghost use Rattle.file_reader.specs.Reading.{told as toldHeader, domains_shown};
 ghost use Rattle.file_lookup.specs.Lookup.{told as toldFound};
-ghost use Rattle.host_replies.specs.Replies.{read_file_of, found_of, written_of};
+ghost use Rattle.file_lookup.specs.Ternary.{told_body};
+ghost use Rattle.host_replies.specs.Replies.{read_file_of, found_of, found_body_of, written_of};
 
 use crate::calls::CallAnswer;
+use file_lookup::Body;
 use file_reader::{Reading, rules_used};
 use refusal::{Fault, Refusal};
 
@@ -17,6 +19,7 @@ pub struct ReadFile {
     pub place: u64,
     pub n: u64,
     pub m: u64,
+    pub t: u64,
     pub universal: u64,
     pub given: u64,
     pub rules: u64,
@@ -32,6 +35,18 @@ pub struct FoundRows {
     pub place: u64,
     pub found: u64,
     pub rows: u64,
+}
+
+// Whether there is a three-way constraint of a number, the place of its body's first byte, and how many bytes the body has.
+#[repr(C)]
+#[derive(Clone, Copy)]
+pub struct FoundBody {
+    pub kind: u64,
+    pub number: u64,
+    pub place: u64,
+    pub found: u64,
+    pub body: u64,
+    pub length: u64,
 }
 
 // How many bytes were written.
@@ -59,6 +74,7 @@ impl From<Result<Reading, Fault>> for ReadFile {
                     place: 0,
                     n: head.n as u64,
                     m: head.m as u64,
+                    t: head.t as u64,
                     universal: head.universal as u64,
                     given: rules.is_some() as u64,
                     rules: rules_used(rules) as u64,
@@ -71,6 +87,7 @@ impl From<Result<Reading, Fault>> for ReadFile {
                 place: fault.place as u64,
                 n: 0,
                 m: 0,
+                t: 0,
                 universal: 0,
                 given: 0,
                 rules: 0,
@@ -92,6 +109,39 @@ impl From<Result<Option<usize>, Refusal>> for FoundRows {
             place: a.place,
             found: rows.is_some() as u64,
             rows: rows.unwrap_or(0) as u64,
+        }
+    }
+}
+
+impl From<Result<Option<Body>, Fault>> for FoundBody {
+    ghost from_gives = { λ answer reply. reply ≡ found_body_of (told_body answer) };
+
+    fn from(answer: Result<Option<Body>, Fault>) -> FoundBody {
+        match answer {
+            Ok(Some(b)) => FoundBody {
+                kind: 0,
+                number: 0,
+                place: 0,
+                found: 1,
+                body: b.place as u64,
+                length: b.length as u64,
+            },
+            Ok(None) => FoundBody {
+                kind: 0,
+                number: 0,
+                place: 0,
+                found: 0,
+                body: 0,
+                length: 0,
+            },
+            Err(fault) => FoundBody {
+                kind: 2,
+                number: u8::from(fault.reason) as u64,
+                place: fault.place as u64,
+                found: 0,
+                body: 0,
+                length: 0,
+            },
         }
     }
 }

@@ -17,7 +17,7 @@ mod values;
 pub use arcs::RuledList;
 pub use calls::{CallAnswer, MovedPosition, OpenMasks, moved_shown};
 pub use checks::CheckedList;
-pub use files::{FoundRows, ReadFile, WrittenBytes};
+pub use files::{FoundBody, FoundRows, ReadFile, WrittenBytes};
 pub use formula_judgements::FormulaJudgement;
 pub use games::{Judgement, Marks, ReplayedCalls, SearchFindings};
 pub use groups::GroupList;

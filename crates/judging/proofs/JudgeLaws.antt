@@ -2,7 +2,7 @@
 use mathlib.Core.Path.{◌≡◌, refl, sym, ap, ap₂, subst, ◌∙◌}
 use mathlib.Core.Bool.{Bool, true, false, cond}
 use mathlib.Core.List.{List, [], ◌∷◌}
-use Prim.Native.Nat.{ℕ, ◌≤◌}
+use Prim.Native.Nat.{ℕ, ◌+◌, ◌≤◌}
 use native.Mathlib.Omega.{arith}
 use lib.ListN.{length, take}
 use lib.Seq.{take_all}
@@ -17,12 +17,14 @@ use Rattle.refusal.proofs.RepliedLaws.{list_refused, list_left}
 use Rattle.rule_set.specs.declared.RuleSet.{RuleSet}
 use Rattle.rule_set.specs.RuleSet.{is_rule_set}
 use Rattle.file_reader.specs.Reading.{verdict_of}
-use Rattle.file_reader.proofs.Accepted.{variables_most}
+use Rattle.file_reader.proofs.Accepted.{variables_and_ternaries}
 use Rattle.game.specs.Problem.{Problem}
-use Rattle.game.specs.Winning.{verdict}
+use Rattle.game.specs.Ternary.{TernaryProblem, ternary_verdict}
 use Rattle.theory.proofs.Theorems.{search_answers}
-use Rattle.file_decoder.specs.FileProblem.{problem_of, ordinary_of}
-use Rattle.file_decoder.specs.Decoded.{FileGiven}
+use Rattle.ternary_theory.specs.Expanded.{expanded}
+use Rattle.ternary_theory.proofs.Expansion.{legal_wide, expanded_verdict}
+use Rattle.file_decoder.specs.FileProblem.{problem_of, ternary_of, ordinary_of}
+use Rattle.ternary_decoder.specs.Decoded.{OrdinaryGiven}
 use Rattle.file_decoder.proofs.FileLaws.{problem_size}
 use Rattle.file_decoder.proofs.ReadLaws.{read_refused, read_fine}
 use Rattle.solver_arrays.specs.declared.arrays.Arrays.{Arrays}
@@ -32,8 +34,8 @@ use Rattle.position.specs.Position.{plays_of}
 use Rattle.position.proofs.Fitting.{fits-legal}
 use Rattle.search_words.specs.TurnRoom.{zeroed}
 use Rattle.search_run.specs.declared.Ran.{Ran}
-use Rattle.search_run.specs.Run.{room_words, room_needed, Finds, Runs}
-use Rattle.judging.specs.Tests.{judge_test, place_test}
+use Rattle.search_run.specs.Run.{room_words, Finds, Runs}
+use Rattle.judging.specs.Tests.{room_for, judge_test, place_test}
 use Rattle.judging.specs.Judging.{judge_reply, judge_room, judge_told, judge_left}
 use Rattle.judging.specs.Searching.{Findings, findings_of, nothing, found_by, found_for, search_findings, search_reply, search_found}
 use Rattle.judging.specs.Inner.{FindsBy, Places, Searches}
@@ -86,23 +88,24 @@ module _ (A : Arrays) (p : Position) (set : ℕ) (w w' : List ℕ) (r : Result R
       (subst (λ (t : Test). FindsBy A t p c.bits w w' r) (sym (set-goes A.own A.domains p set (room_words A.n) (length w) z)) f) P o
 
 -- What an entry is given of a file.
-module _ (f : List ℕ) (A : Arrays) (g : FileGiven f A) where
+module _ (f : List ℕ) (A : Arrays) (g : OrdinaryGiven f A) where
   pub ready_of : Posed A
   ready_of = record { problem = ordinary_of f g.fine; poses = g.poses }
 
   -- So the arrays' findings are the file's.
   pub searched_file : (p : Position) (set : ℕ) (w w' : List ℕ) (r : Result Ran Reason) → Searches A p set w w' r
       → (found_by reason_told r ≡ search_found f p set (length w)) × (w' ≡ judge_left f p set w)
-  unfolding search_found search_reply judge_left judge_room ordinary_of
+  unfolding search_found search_reply judge_left judge_room ternary_of ordinary_of expanded
   searched_file p set w w' r j =
+      let J = ternary_of f g.fine in
       let P = problem_of f g.fine in
-      let q = j P g.poses in
-      let z = g.poses.states.size in
-      let t : judge_test A.own A.domains p set (room_words A.n) (length w) ≡ judge_test P.n P.domain p set (room_needed P) (length w)
+      let q = j (ordinary_of f g.fine) g.poses in
+      let z : J.binary.n + J.ternary ≡ A.n = g.poses.states.size in
+      let t : judge_test A.own A.domains p set (room_words A.n) (length w) ≡ judge_test P.n P.domain p set (room_for J) (length w)
       = test_same P A.own A.domains (problem_size f g.fine ∙ sym g.size) g.domain p set (room_words A.n) (length w)
       ∙ ap (λ (k : ℕ). judge_test P.n P.domain p set (room_words k) (length w)) (sym z)
       in (
-        q.0 ∙ ap (λ (t : Test). found_for t (search_findings P p set)) t ∙ sym (read_fine f _ _ g.fine),
+        q.0 ∙ ap (λ (t : Test). found_for t (search_findings (expanded J) p set)) t ∙ sym (read_fine f _ _ g.fine),
         q.1 ∙ ap₂ (λ (t : Test) (k : ℕ). list_for t (zeroed 0 (room_words k) w) w) t (sym z) ∙ sym (read_fine f _ _ g.fine),
       )
 
@@ -116,23 +119,25 @@ refused-file f p set w e z = (sym (read_refused f _ _ e z), sym (read_refused f 
 pub own-domain : (P : Problem) → P.domain ≡ take P.n P.domain
 own-domain P = sym (take_all P.n P.domain (let e = P.sized in omega arith))
 
-verdict-found : (P : Problem) (p : Position) (set words : ℕ) → P.n ≤ 32 → length p.values ≡ 32 → (search_reply P p set words).told ≡ judge_reply P p set words
+verdict-found : (J : TernaryProblem) (p : Position) (set words : ℕ) → J.binary.n ≤ 32 → length p.values ≡ 32 → (search_reply J p set words).told ≡ judge_reply J p set words
 unfolding search_reply judge_reply found_for replied_for nothing search_findings
-verdict-found P p set words m long = go (judge_test P.n P.domain p set (room_needed P) words) refl
+verdict-found J p set words m long = go (judge_test J.binary.n J.binary.domain p set (room_for J) words) refl
   where
-    go : (v : Test) → judge_test P.n P.domain p set (room_needed P) words ≡ v → (found_for v (search_findings P p set)).told ≡ replied_for v (cond (verdict P (plays_of p)) 1 0 ∷ [])
-    go (Ok u) z = ap (λ (b : Bool). replied (cond b 1 0 ∷ []))
-        (search_answers P set (plays_of p) (fits-legal p P.n P.domain (judge_fits P.n P.domain p set (room_needed P) words z) m long P refl (own-domain P)))
+    go : (v : Test) → judge_test J.binary.n J.binary.domain p set (room_for J) words ≡ v
+        → (found_for v (search_findings (expanded J) p set)).told ≡ replied_for v (cond (ternary_verdict J (plays_of p)) 1 0 ∷ [])
+    go (Ok u) z =
+        let l = fits-legal p J.binary.n J.binary.domain (judge_fits J.binary.n J.binary.domain p set (room_for J) words z) m long J.binary refl (own-domain J.binary) in
+        ap (λ (b : Bool). replied (cond b 1 0 ∷ [])) (search_answers (expanded J) set (plays_of p) (legal_wide J (plays_of p) l) ∙ expanded_verdict J (plays_of p) l)
     go (Err e) z = refl
 
 -- So judging is the verdict of a search.
 pub judged-found : (f : List ℕ) (p : Position) (set words : ℕ) → length p.values ≡ 32 → (search_found f p set words).told ≡ judge_told f p set words
-unfolding search_found judge_told nothing problem_of
+unfolding search_found judge_told nothing problem_of ternary_of
 judged-found f p set words long = go (verdict_of f) refl
   where
     go : (v : Verdict) → verdict_of f ≡ v → (search_found f p set words).told ≡ judge_told f p set words
     go (Ok u) z =
         ap {B = Told} (λ (o : Findings). o.told) (read_fine f _ _ z)
-        ∙ verdict-found (problem_of f z) p set words (variables_most f z) long
+        ∙ verdict-found (ternary_of f z) p set words (omega (arith, variables_and_ternaries f z)) long
         ∙ sym (read_fine f _ _ z)
     go (Err e) z = ap {B = Told} (λ (o : Findings). o.told) (read_refused f _ _ e z) ∙ sym (read_refused f _ _ e z)

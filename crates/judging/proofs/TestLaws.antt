@@ -2,7 +2,7 @@
 use mathlib.Core.Path.{◌≡◌, sym, ap, ap₂, ◌∙◌}
 use mathlib.Core.Bool.{Bool, true, false}
 use mathlib.Core.List.{List}
-use Prim.Native.Nat.{ℕ, ◌≤◌}
+use Prim.Native.Nat.{ℕ, ◌+◌, ◌≤◌}
 use lib.Dec.{T}
 use lib.ListN.{take}
 use lib.Seq.{get_or-take}
@@ -15,11 +15,12 @@ use Rattle.refusal.specs.Chain.{Test, Fine, ◌then◌, need}
 use Rattle.refusal.proofs.Chain.{then_fine, need_fine, need_ok}
 use Rattle.rule_set.specs.RuleSet.{is_rule_set}
 use Rattle.game.specs.Problem.{Problem}
+use Rattle.game.specs.Ternary.{TernaryProblem}
 use Rattle.position.specs.declared.Position.{Position}
 use Rattle.position.specs.Position.{fits_in}
 use Rattle.position.proofs.Fitting.{fits_same}
-use Rattle.search_run.specs.Run.{room_needed, held_room}
-use Rattle.judging.specs.Tests.{position_test, room_test, judge_test, place_test}
+use Rattle.search_run.specs.Run.{held_room}
+use Rattle.judging.specs.Tests.{position_test, room_for, room_test, judge_test, place_test}
 
 -- What fine tests say.
 pub room_fine : (needed words : ℕ) → room_test needed words ≡ Fine → needed ≤ words
@@ -27,9 +28,9 @@ unfolding room_test
 room_fine needed words e = leb-true needed words (need_fine _ _ e)
 
 -- The room that entries hold is enough.
-pub room_held : (P : Problem) → P.n ≤ 32 → room_test (room_needed P) held_room ≡ Fine
+pub room_held : (J : TernaryProblem) → J.binary.n + J.ternary ≤ 32 → room_test (room_for J) held_room ≡ Fine
 unfolding room_test
-room_held P h = need_ok _ _ (le-leb (room_needed P) held_room (omega arith))
+room_held J h = need_ok _ _ (le-leb (room_for J) held_room (omega arith))
 
 -- v being the verdict.
 pub place_fine : (n : ℕ) (masks : List ℕ) (p : Position) (needed words : ℕ) (v : Test) → v ≡ place_test n masks p needed words → v ≡ Fine

@@ -1,4 +1,4 @@
-// Searching and judging a position: all that a search finds, and whether the game is won. It rests on `file_decoder`, `position` and
+// Searching and judging a position: all that a search finds, and whether the game is won. It rests on `ternary_decoder`, `position` and
 // `search_run`. `search` and `judge` are open to callers; `room_test` is for `marking`.
 #![tactic(auto)]
 
@@ -10,12 +10,12 @@ ghost use Rattle.judging.specs.Inner.{Places, Searches};
 
 mod tests;
 
-use file_decoder::decode;
 use position::Position;
 use refusal::{Reason, Refusal};
 use rule_set::RuleSet;
 use search_run::{Ran, Start, run};
 use solver_arrays::Arrays;
+use ternary_decoder::decode_ordinary;
 use tests::place_test;
 pub use tests::room_test;
 
@@ -45,7 +45,7 @@ pub fn search(f: &[u8], p: Position, set: usize, room: &mut [u16]) -> Result<Ran
     ensures result_value { found result ≡ search_found f.now p set (length room.old) }
     ensures room_after { room.new ≡ judge_left f.now p set room.old }
 {
-    let arrays = decode(f)?;
+    let arrays = decode_ordinary(f)?;
     Ok(search_in(&arrays, p, set, room)?)
 }
 

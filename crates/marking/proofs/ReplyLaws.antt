@@ -2,7 +2,7 @@
 use mathlib.Core.Path.{◌≡◌, refl, sym, ap, ap₂, subst, ◌∙◌}
 use mathlib.Core.Bool.{true, false}
 use mathlib.Core.List.{List, [], ◌∷◌}
-use Prim.Native.Nat.{ℕ, ◌≤◌, ◌<◌}
+use Prim.Native.Nat.{ℕ, ◌+◌, ◌≤◌, ◌<◌}
 use native.Mathlib.Omega.{arith}
 use lib.Dec.{T, ltb}
 use lib.ListN.{get_or, length, take}
@@ -20,19 +20,21 @@ use Rattle.rule_set.specs.declared.RuleSet.{RuleSet}
 use Rattle.rule_set.specs.RuleSet.{is_rule_set}
 use Rattle.game.specs.Problem.{Problem}
 use Rattle.game.specs.Search.{marked_values}
-use Rattle.game.specs.Winning.{winning_values}
+use Rattle.game.specs.Ternary.{TernaryProblem, ternary_winning}
 use Rattle.theory.proofs.Theorems.{marks_are}
+use Rattle.ternary_theory.specs.Expanded.{expanded, domain_own}
+use Rattle.ternary_theory.proofs.Expansion.{legal_wide, expanded_winning}
 use Rattle.solver_arrays.specs.declared.arrays.Arrays.{Arrays}
-use Rattle.file_decoder.specs.FileProblem.{problem_of, ordinary_of}
-use Rattle.file_decoder.specs.Decoded.{FileGiven}
+use Rattle.file_decoder.specs.FileProblem.{problem_of, ternary_of, ordinary_of}
+use Rattle.ternary_decoder.specs.Decoded.{OrdinaryGiven}
 use Rattle.file_decoder.proofs.FileLaws.{problem_size}
 use Rattle.file_decoder.proofs.ReadLaws.{read_fine}
 use Rattle.position.specs.declared.Position.{Position}
 use Rattle.position.specs.Position.{plays_of, fits_in}
 use Rattle.position.proofs.Fitting.{fits-legal, length_plays}
 use Rattle.search_words.specs.TurnRoom.{zeroed}
-use Rattle.search_run.specs.Run.{room_words, room_needed}
-use Rattle.judging.specs.Tests.{position_test, room_test}
+use Rattle.search_run.specs.Run.{room_words}
+use Rattle.judging.specs.Tests.{position_test, room_for, room_test}
 use Rattle.judging.proofs.TestLaws.{room_fine, position_same}
 use Rattle.judging.proofs.JudgeLaws.{own-domain}
 use Rattle.marking.specs.declared.Marks.{Marks}
@@ -94,34 +96,38 @@ module _ (A : Arrays) (p : Position) (set : ℕ) (w w' : List ℕ) (r : Result M
       (subst (λ (t : Test). MarksBy A t p c.bits w w' r) (sym (mark_goes A.own A.domains p set (room_words A.n) (length w) z)) f) P o
 
 -- The marks found are the game's, under every rule set.
-marked_values_lem : (P : Problem) (p : Position) (set words : ℕ) → P.n ≤ 32 → length p.values ≡ 32
-    → replied_for (mark_test P.n P.domain p set (room_needed P) words) (marked_values P set (plays_of p) ∷ get_or P.domain p.plays 0 ∷ []) ≡ mark_reply P p set words
-unfolding mark_reply replied_for
-marked_values_lem P p set words m long = go (mark_test P.n P.domain p set (room_needed P) words) refl
+marked_values_lem : (J : TernaryProblem) (p : Position) (set words : ℕ) → J.binary.n ≤ 32 → length p.values ≡ 32
+    → replied_for (mark_test J.binary.n J.binary.domain p set (room_for J) words) (marked_values (expanded J) set (plays_of p) ∷ get_or (expanded J).domain p.plays 0 ∷ []) ≡ mark_reply J p set words
+unfolding mark_reply replied_for expanded
+marked_values_lem J p set words m long = go (mark_test J.binary.n J.binary.domain p set (room_for J) words) refl
   where
-    go : (v : Test) → mark_test P.n P.domain p set (room_needed P) words ≡ v
-        → replied_for v (marked_values P set (plays_of p) ∷ get_or P.domain p.plays 0 ∷ []) ≡ replied_for v (winning_values P (plays_of p) ∷ get_or P.domain p.plays 0 ∷ [])
+    go : (v : Test) → mark_test J.binary.n J.binary.domain p set (room_for J) words ≡ v
+        → replied_for v (marked_values (expanded J) set (plays_of p) ∷ get_or (expanded J).domain p.plays 0 ∷ []) ≡ replied_for v (ternary_winning J (plays_of p) ∷ get_or J.binary.domain p.plays 0 ∷ [])
     go (Ok u) z =
-        let t = mark_fits P.n P.domain p set (room_needed P) words z in
-        let k = length_plays p P.n P.domain t.0 m long in
+        let t = mark_fits J.binary.n J.binary.domain p set (room_for J) words z in
+        let k = length_plays p J.binary.n J.binary.domain t.0 m long in
         let h = t.1 in
-        ap (λ a. replied (a ∷ get_or P.domain p.plays 0 ∷ [])) (marks_are P set (plays_of p) (fits-legal p P.n P.domain t.0 m long P refl (own-domain P)) (omega arith))
+        let l = fits-legal p J.binary.n J.binary.domain t.0 m long J.binary refl (own-domain J.binary) in
+        ap₂ (λ a d. replied (a ∷ d ∷ []))
+        (marks_are (expanded J) set (plays_of p) (legal_wide J (plays_of p) l) (omega arith) ∙ expanded_winning J (plays_of p) l (omega arith))
+        (domain_own J p.plays h)
     go (Err e) z = refl
 
 -- So the arrays' reply is the file's.
-pub marked-file : (f : List ℕ) (A : Arrays) → FileGiven f A
+pub marked-file : (f : List ℕ) (A : Arrays) → OrdinaryGiven f A
     → (p : Position) → length p.values ≡ 32 → (set : ℕ) (w w' : List ℕ) (r : Result Marks Reason) → MarksIn A p set w w' r
     → (told_by mark_values reason_told r ≡ mark_told f p set (length w)) × (w' ≡ mark_left f p set w)
-unfolding mark_told mark_left mark_room ordinary_of
+unfolding mark_told mark_left mark_room ternary_of ordinary_of expanded
 marked-file f A g p long set w w' r j =
+    let J = ternary_of f g.fine in
     let P = problem_of f g.fine in
-    let q = j P g.poses in
-    let z = g.poses.states.size in
-    let t : mark_test A.own A.domains p set (room_words A.n) (length w) ≡ mark_test P.n P.domain p set (room_needed P) (length w)
+    let q = j (ordinary_of f g.fine) g.poses in
+    let z : J.binary.n + J.ternary ≡ A.n = g.poses.states.size in
+    let t : mark_test A.own A.domains p set (room_words A.n) (length w) ≡ mark_test P.n P.domain p set (room_for J) (length w)
     = mark_same P A.own A.domains (problem_size f g.fine ∙ sym g.size) g.domain p set (room_words A.n) (length w)
     ∙ ap (λ (k : ℕ). mark_test P.n P.domain p set (room_words k) (length w)) (sym z)
     in (
-      q.0 ∙ ap (λ (t : Test). replied_for t (marked_values P set (plays_of p) ∷ get_or P.domain p.plays 0 ∷ [])) t
-          ∙ marked_values_lem P p set (length w) (omega (arith, z, A.most)) long ∙ sym (read_fine f _ _ g.fine),
+      q.0 ∙ ap (λ (t : Test). replied_for t (marked_values (expanded J) set (plays_of p) ∷ get_or (expanded J).domain p.plays 0 ∷ [])) t
+          ∙ marked_values_lem J p set (length w) (omega (arith, z, A.most)) long ∙ sym (read_fine f _ _ g.fine),
       q.1 ∙ ap₂ (λ (t : Test) (k : ℕ). list_for t (zeroed 0 (room_words k) w) w) t (sym z) ∙ sym (read_fine f _ _ g.fine),
     )

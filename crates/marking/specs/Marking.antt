@@ -7,16 +7,16 @@ use Rattle.refusal.specs.Told.{Told, reason_told, fault_told, refusal_told, told
 use Rattle.refusal.specs.Replied.{replied_for, list_for}
 use Rattle.refusal.specs.Chain.{Test, ◌then◌, need}
 use Rattle.game.specs.Problem.{Problem}
+use Rattle.game.specs.Ternary.{TernaryProblem, ternary_winning}
 use Rattle.game.specs.Search.{marked_values}
-use Rattle.game.specs.Winning.{winning_values}
 use Rattle.solver_arrays.specs.declared.arrays.Arrays.{Arrays}
 use Rattle.solver_arrays.specs.Arrays.{Poses}
-use Rattle.file_decoder.specs.Read.{read_first}
+use Rattle.file_decoder.specs.Read.{read_ternary}
 use Rattle.position.specs.declared.Position.{Position}
 use Rattle.position.specs.Position.{plays_of, fits_in}
 use Rattle.search_words.specs.TurnRoom.{zeroed}
-use Rattle.search_run.specs.Run.{room_words, room_needed}
-use Rattle.judging.specs.Tests.{position_test, room_test}
+use Rattle.search_run.specs.Run.{room_words}
+use Rattle.judging.specs.Tests.{position_test, room_for, room_test}
 use Rattle.marking.specs.declared.Marks.{Marks}
 
 -- The values of a finished answer: the mask of the good options, and the next choice's mask, in which all others are bad.
@@ -35,23 +35,23 @@ mark_test n masks p set needed words = position_test n masks p set then (need (l
 unfoldable pub mark_place_test : ℕ → List ℕ → Position → ℕ → ℕ → Test
 mark_place_test n masks p needed words = need (fits_in p n masks) Misfit then (need (ltb p.plays n) Done then room_test needed words)
 
--- Over a problem P: the winning values of the next variable, under every set, and its domain; the room as judging leaves it.
-module _ (P : Problem) (p : Position) (set : ℕ) where
-  open P use {n, domain}
+-- Over a problem J with three-way constraints: the winning values of the next variable, under every set, and its domain; the room as judging leaves it.
+module _ (J : TernaryProblem) (p : Position) (set : ℕ) where
+  open J.binary use {n, domain}
 
   unfoldable pub mark_reply : ℕ → Told
-  mark_reply words = replied_for (mark_test n domain p set (room_needed P) words) (winning_values P (plays_of p) ∷ get_or domain p.plays 0 ∷ [])
+  mark_reply words = replied_for (mark_test n domain p set (room_for J) words) (ternary_winning J (plays_of p) ∷ get_or domain p.plays 0 ∷ [])
 
   unfoldable pub mark_room : List ℕ → List ℕ
-  mark_room room = list_for (mark_test n domain p set (room_needed P) (length room)) (zeroed 0 (room_needed P) room) room
+  mark_room room = list_for (mark_test n domain p set (room_for J) (length room)) (zeroed 0 (room_for J) room) room
 
 -- Over a file f.
 module _ (f : List ℕ) (p : Position) (set : ℕ) where
   unfoldable pub mark_told : ℕ → Told
-  mark_told words = read_first f fault_told (λ P. mark_reply P p set words)
+  mark_told words = read_ternary f fault_told (λ J. mark_reply J p set words)
 
   unfoldable pub mark_left : List ℕ → List ℕ
-  mark_left room = read_first f (λ e. room) (λ P. mark_room P p set room)
+  mark_left room = read_ternary f (λ e. room) (λ J. mark_room J p set room)
 
 -- Over the arrays A, in every problem that they state; the first A.own variables are to play.
 module _ (A : Arrays) where

@@ -1,4 +1,4 @@
-// Marks: which values of a position's next variable win when played, each searched by itself. It rests on `file_decoder`, `search_run`
+// Marks: which values of a position's next variable win when played, each searched by itself. It rests on `ternary_decoder`, `search_run`
 // and the tests of `judging`. `mark` is open to callers.
 #![tactic(auto)]
 
@@ -9,13 +9,13 @@ ghost use Rattle.marking.specs.Marking.{told, mark_place_test, mark_told, mark_l
 
 mod values;
 
-use file_decoder::decode;
 use judging::room_test;
 use position::{Position, fit_test};
 use refusal::{Reason, Refusal, needed};
 use rule_set::RuleSet;
 use search_run::Start;
 use solver_arrays::Arrays;
+use ternary_decoder::decode_ordinary;
 use values::winning_values;
 
 // The winning values of a position's next variable, and its domain.
@@ -59,6 +59,6 @@ pub fn mark(f: &[u8], p: Position, set: usize, room: &mut [u16]) -> Result<Marks
     ensures result_value { told result ≡ mark_told f.now p set (length room.old) }
     ensures room_after { room.new ≡ mark_left f.now p set room.old }
 {
-    let arrays = decode(f)?;
+    let arrays = decode_ordinary(f)?;
     Ok(mark_in(&arrays, p, set, room)?)
 }

@@ -78,6 +78,11 @@ pub cond_same : {A : Type 0} (b : Bool) (x : A) → cond b x x ≡ x
 cond_same true x = refl
 cond_same false x = refl
 
+-- What comes behind a part counts only where that part holds.
+pub and_same : (a b c : Bool) → (T a → b ≡ c) → (a && b) ≡ (a && c)
+and_same true b c f = f tt
+and_same false b c f = refl
+
 -- A part that follows from the other.
 pub and_keep : (a b : Bool) → (T a → T b) → (a && b) ≡ a
 and_keep true b f = holds (f tt)

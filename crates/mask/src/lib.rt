@@ -21,6 +21,13 @@ pub fn contains<M: Mask>(m: M, k: usize) -> bool
     m.holds(k)
 }
 
+// Whether it holds value k, whatever its size.
+pub fn holds(m: u16, k: usize) -> bool
+    ensures { result ≡ bit m k }
+{
+    k < 16 && contains(m, k)
+}
+
 // The mask of value k alone.
 pub fn single<M: Mask>(k: usize) -> M
     requires { k < M.width }

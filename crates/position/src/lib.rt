@@ -3,10 +3,9 @@
 #![tactic(auto)]
 
 ghost use Rattle.std.specs.Prelude.{◌≡◌, [], ◌≤◌, ◌<◌, T, length};
-ghost use Rattle.mask.specs.Mask.{bit};
 ghost use Rattle.position.specs.Position.{shown, pushed, popped, held, place_fits, fits_in, fit_test, place_mask, Written};
 
-use mask::{contains, single};
+use mask::{holds, single};
 use refusal::{Reason, needed};
 
 // The options played, in order of play, and zero elsewhere. The first `depth` plays are held. C hosts hand it in and get it back.
@@ -58,13 +57,6 @@ pub fn held(p: Position, depth: usize) -> Position
     let mut next = p;
     next.depth = depth;
     next
-}
-
-// Whether the mask holds the value, whatever its size.
-pub fn holds(m: u16, value: usize) -> bool
-    ensures { result ≡ bit m value }
-{
-    value < 16 && contains(m, value)
 }
 
 fn place_fits(plays: usize, i: usize, m: u16, value: u8) -> bool

@@ -39,7 +39,7 @@ module _ (P : Problem) where
 
   -- "n, m, a rule set or none, the day's choices as bits of a 32-bit number, n masks, and 18 numbers a table", and their file.
   unfoldable pub numbers_of : Option ℕ → Handed
-  numbers_of rules = handed n constraint_count rules (mask_of n universal) domain constraints_of
+  numbers_of rules = handed n constraint_count rules (mask_of n universal) domain constraints_of []
 
   unfoldable pub file_of : Option ℕ → List ℕ
   file_of rules = bytes_of (numbers_of rules)

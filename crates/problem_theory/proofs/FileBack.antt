@@ -1,4 +1,4 @@
--- A file is the file of the problem that it states.
+-- A file without three-way constraints is the file of the problem that it states.
 use mathlib.Core.Path.{◌≡◌, refl, sym, ap₂, subst, ◌∙◌}
 use mathlib.Core.Bool.{◌&&◌}
 use mathlib.Core.List.{List}
@@ -14,9 +14,9 @@ use Rattle.refusal.specs.Chain.{Fine}
 use Rattle.file_layout.specs.Layout.{word, n_of, m_of, variables_at, row_at}
 use Rattle.file_layout.specs.Numbers.{pair_of}
 use Rattle.file_records.specs.Records.{verdict_of}
-use Rattle.file_reader.specs.Reading.{head_of, domain_of, universal_of, domains_of}
+use Rattle.file_reader.specs.Reading.{t_of, head_of, domain_of, universal_of, domains_of}
 use Rattle.file_reader.proofs.Accepted.{accepted, variables_most, read_domain, domain_read}
-use Rattle.file_bytes.specs.Bytes.{variable_bytes, constraint_bytes, domain_in, one_in, two_in, row_handed}
+use Rattle.file_bytes.specs.Bytes.{records_from, count_in, variable_bytes, constraint_bytes, domain_in, one_in, two_in, row_handed}
 use Rattle.file_round_trip.proofs.Parts.{part, variable_part, constraint_part, bytes_part}
 use Rattle.file_constraints.specs.Constraints.{constraints_at, constraint_one, constraint_two, constraint_row}
 use Rattle.file_constraints.specs.Pairs.{constrained_of, compatible_of}
@@ -129,7 +129,9 @@ module _ (f : List ℕ) (bytes : (k : ℕ) → get_or f k 0 < 256) (fine : verdi
       constraint_part f bytes (constraints_at f + 36 * t) _ _ _ c.within c.mark (l.one ∙ u) (l.two ∙ v)
       (λ a k. l.rows a k ∙ ap₂ (λ i j. row_of Q i j a) u v ∙ row_back t a h k)
 
-  -- All of them are the file.
-  pub file_back : file_of Q (head_of f).rules ≡ f
-  unfolding file_of numbers_of problem_of head_of
-  file_back = bytes_part f bytes (accepted f fine) (numbers_of Q (head_of f).rules) refl counted refl variable_back constraint_back
+  -- All of them are the file, where it has no three-way constraint.
+  pub file_back : t_of f ≡ 0 → file_of Q (head_of f).rules ≡ f
+  unfolding file_of numbers_of problem_of head_of count_in records_from
+  file_back none =
+      bytes_part f bytes (accepted f fine) (numbers_of Q (head_of f).rules) refl counted refl (sym none) variable_back constraint_back
+      (λ q h. absurd (omega (arith, none)))

@@ -22,13 +22,13 @@ use Rattle.file_layout.specs.Layout.{n_of, m_of}
 use Rattle.file_layout.specs.Numbers.{in_order, row_fits}
 use Rattle.file_layout.proofs.NumberLaws.{order_in}
 use Rattle.file_records.specs.Records.{verdict_of}
-use Rattle.file_reader.specs.Reading.{head_of, domain_of, universal_of}
-use Rattle.file_bytes.specs.Bytes.{Handed, domain_in}
+use Rattle.file_reader.specs.Reading.{t_of, head_of, domain_of, universal_of}
+use Rattle.file_bytes.specs.Bytes.{start_in, records_from, count_in, Handed, Sized, domain_in}
 use Rattle.file_bytes.proofs.RecordLaws.{length_bytes}
 use Rattle.file_writer.specs.Tests.{rules_fit, write_test, rest_test, pair_in}
 use Rattle.file_writer.proofs.Writable.{Writable, FitsIn, write_fine, told_fine, buffer_fine}
 use Rattle.file_round_trip.specs.Shown.{Shown}
-use Rattle.file_round_trip.proofs.Written.{file_fine, file_n, file_m, file-rules, file-domain, file-universal, file-one, file-two, file-row}
+use Rattle.file_round_trip.proofs.Written.{file_fine, file_n, file_m, file_t, file-rules, file-domain, file-universal, file-one, file-two, file-row}
 use Rattle.file_round_trip.proofs.RoundTrip.{read_back}
 use Rattle.file_constraints.specs.Constraints.{constraints_at, constraint_one, constraint_two, constraint_row}
 use Rattle.file_constraints.specs.Pairs.{constrained_of, compatible_of}
@@ -110,6 +110,19 @@ module _ (P : Problem) (some : 0 < P.n) (most : P.n ≤ 32) (rules : Option ℕ)
         rows = λ a l. rw (r.2.one, r.2.two, r.2.rows a l) (row_fits_domains P (r.0 / 32) (r.0 % 32) a);
       }
 
+  -- There are no three-way constraints.
+  no_ternary : count_in H.ternaries ≡ 0
+  unfolding numbers_of count_in records_from
+  no_ternary = refl
+
+  none_stands : start_in H.ternaries (count_in H.ternaries) ≡ length H.ternaries
+  unfolding numbers_of start_in count_in records_from
+  none_stands = refl
+
+  sized_handed : Sized H
+  unfolding numbers_of constraint_count
+  sized_handed = record { masks = omega (arith, P.sized); rows = omega (arith, constraints-length P); whole = none_stands }
+
   -- The writer takes the numbers.
   pub numbers_fit : (room : ℕ) → length F ≤ room → Writable H room
   unfolding numbers_of file_of constraint_count
@@ -122,7 +135,10 @@ module _ (P : Problem) (some : 0 < P.n) (most : P.n ≤ 32) (rules : Option ℕ)
         bits = mask_of_lt n universal;
         some = P.nonempty;
         fits = fits_handed;
-        wide = omega (arith, h, length_bytes H);
+        whole = none_stands;
+        few = omega (arith, no_ternary, most);
+        triples = λ q g. absurd (omega (arith, no_ternary));
+        wide = omega (arith, h, length_bytes H sized_handed);
       }
 
   fits_whole : Writable H (length F)
@@ -141,7 +157,9 @@ module _ (P : Problem) (some : 0 < P.n) (most : P.n ≤ 32) (rules : Option ℕ)
       let u = then_fine _ _ r.1 in
       let d = then_fine _ _ u.1 in
       let c = then_fine _ _ d.1 in
-      go _ _ a.0 ∙ go _ _ b.0 ∙ go _ _ r.0 ∙ go _ _ u.0 ∙ go _ _ d.0 ∙ go _ _ c.0 ∙ ap (λ k. need (leb k room) Room) (sym (length_bytes H))
+      let t = then_fine _ _ c.1 in
+      go _ _ a.0 ∙ go _ _ b.0 ∙ go _ _ r.0 ∙ go _ _ u.0 ∙ go _ _ d.0 ∙ go _ _ c.0 ∙ go _ _ t.0
+      ∙ ap (λ k. need (leb k room) Room) (sym (length_bytes H sized_handed))
 
   -- The file is accepted.
   pub file_accepted : verdict_of F ≡ Fine
@@ -155,6 +173,11 @@ module _ (P : Problem) (some : 0 < P.n) (most : P.n ≤ 32) (rules : Option ℕ)
       subst (λ (f : List ℕ). Shown f H)
       (ap (take (length F)) (buffer_fine H F write_whole) ∙ take_at F (drop (length F) F) (length F) refl)
       (read_back H F (length F) (told_fine H F write_whole))
+
+  -- It has no three-way constraint.
+  pub file_binary : t_of F ≡ 0
+  unfolding file_of
+  file_binary = file_t H (length F) fits_whole ∙ no_ternary
 
   -- The rule set comes back.
   pub file_rules : (head_of F).rules ≡ rules

@@ -4,5 +4,5 @@ pub mod PairCount
 pub mod Listing
 -- The file of a problem is accepted and states a problem whose game is the same.
 pub mod FileLaws
--- A file is the file of the problem that it states.
+-- A file without three-way constraints is the file of the problem that it states.
 pub mod FileBack

@@ -89,7 +89,7 @@ module _ (P : Problem) (A : Arrays) (h : Poses P A) where
   -- What the writer is handed.
   pub posed_handed : (rules : Option ℕ) (m universal : ℕ) (masks constraints : List ℕ)
       → m ≡ count (32 * A.n) (is_pair_in A) → universal ≡ mask_of A.n (bit A.universal) → masks ≡ take A.n A.domains → constraints ≡ constraints_in A (32 * A.n)
-      → handed A.n m rules universal masks constraints ≡ numbers_of P rules
+      → handed A.n m rules universal masks constraints [] ≡ numbers_of P rules
   unfolding numbers_of
   posed_handed rules m universal masks constraints e u d c =
       let e' : m ≡ constraint_count P = e ∙ posed_count in

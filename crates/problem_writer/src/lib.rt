@@ -48,5 +48,6 @@ pub fn write_problem(arrays: &Arrays, rules: Option<u8>, buf: &mut [u8]) -> Resu
         universal_bits(arrays),
         &arrays.domains[..arrays.n],
         &numbers[..18 * count],
+        &[],
     )
 }

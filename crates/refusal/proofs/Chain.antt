@@ -43,6 +43,11 @@ module _ {E : Type 0} where
   then_same (Ok u) t v h = h refl
   then_same (Err e) t v h = refl
 
+  pub then_assoc : (s t u : Result (Unit {0}) E) → ((s then t) then u) ≡ (s then t then u)
+  unfolding ◌then◌
+  then_assoc (Ok v) t u = refl
+  then_assoc (Err e) t u = refl
+
   -- The library's word for a chain.
   pub and_is : (s t : Result (Unit {0}) E) → result_and s t ≡ (s then t)
   unfolding ◌then◌

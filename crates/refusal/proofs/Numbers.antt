@@ -2,7 +2,7 @@
 use Rattle.std.specs.Prelude.{ℕ, List, [], ◌∷◌, get_or}
 use mathlib.Core.Path.{◌≡◌, refl, sym, ap, ap₂, ◌∙◌}
 use Rattle.refusal.specs.declared.reason.Reason.{Reason}
-use Rattle.refusal.specs.declared.reason.Reason.TheVariants.{Short, Mark, Count, Domain, Pair, Order, Stray, Rules, Tail, Value, Variable, Room, Lent, Full, Bare, Done, Misfit, Locked, Depth}
+use Rattle.refusal.specs.declared.reason.Reason.TheVariants.{Short, Mark, Count, Domain, Pair, Order, Stray, Rules, Tail, Value, Variable, Room, Lent, Full, Bare, Done, Misfit, Locked, Depth, Triple, Many}
 use Rattle.refusal.specs.declared.reason.Fault.{Fault}
 use Rattle.refusal.specs.Reason.{number_of, ◌at◌}
 use Rattle.refusal.specs.Told.{Told, replied, refused, refused_at, fault_told}
@@ -11,7 +11,7 @@ use Rattle.refusal.specs.Told.{Told, replied, refused, refused_at, fault_told}
 abbrev reasons : List Reason
 reasons =
     Misfit ∷ Short ∷ Mark ∷ Count ∷ Domain ∷ Pair ∷ Order ∷ Stray ∷ Rules ∷ Tail ∷ Value ∷ Variable ∷ Room ∷ Lent
-    ∷ Misfit ∷ Misfit ∷ Misfit ∷ Misfit ∷ Misfit ∷ Misfit ∷ Full ∷ Bare ∷ Done ∷ Misfit ∷ Locked ∷ Depth ∷ []
+    ∷ Misfit ∷ Misfit ∷ Misfit ∷ Misfit ∷ Misfit ∷ Misfit ∷ Full ∷ Bare ∷ Done ∷ Misfit ∷ Locked ∷ Depth ∷ Triple ∷ Many ∷ []
 
 unfoldable reason_of : ℕ → Reason
 reason_of k = get_or reasons k Misfit
@@ -42,6 +42,8 @@ of_number Done = refl
 of_number Misfit = refl
 of_number Locked = refl
 of_number Depth = refl
+of_number Triple = refl
+of_number Many = refl
 
 pub number_one : (d e : Reason) → number_of d ≡ number_of e → d ≡ e
 number_one d e q = sym (of_number d) ∙ ap reason_of q ∙ of_number e

@@ -2,7 +2,7 @@
 -- definition gives this paper's number and values for each of its cases."
 use Rattle.std.specs.Prelude.{ℕ}
 use Rattle.refusal.specs.declared.reason.Reason.{Reason}
-use Rattle.refusal.specs.declared.reason.Reason.TheVariants.{Short, Mark, Count, Domain, Pair, Order, Stray, Rules, Tail, Value, Variable, Room, Lent, Full, Bare, Done, Misfit, Locked, Depth}
+use Rattle.refusal.specs.declared.reason.Reason.TheVariants.{Short, Mark, Count, Domain, Pair, Order, Stray, Rules, Tail, Value, Variable, Room, Lent, Full, Bare, Done, Misfit, Locked, Depth, Triple, Many}
 use Rattle.refusal.specs.declared.reason.Fault.{Fault}
 
 abbrev pub number_of : Reason → ℕ
@@ -25,6 +25,8 @@ number_of Done = 22
 number_of Misfit = 23
 number_of Locked = 24
 number_of Depth = 25
+number_of Triple = 26
+number_of Many = 27
 
 -- "Reading tells the number and the place."
 infixr 30 ◌at◌

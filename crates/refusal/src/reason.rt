@@ -25,6 +25,8 @@ pub enum Reason {
     Misfit = 23,
     Locked = 24,
     Depth = 25,
+    Triple = 26,
+    Many = 27,
 }
 
 impl From<Reason> for u8 {

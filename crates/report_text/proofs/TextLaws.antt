@@ -6,7 +6,7 @@ use lib.ListN.{length, length-append}
 use native.Mathlib.Omega.{arith}
 use Rattle.mask.specs.Mask.{bit}
 use Rattle.refusal.specs.declared.reason.Reason.{Reason}
-use Rattle.refusal.specs.declared.reason.Reason.TheVariants.{Short, Mark, Count, Domain, Pair, Order, Stray, Rules, Tail, Value, Variable, Room, Lent, Full, Bare, Done, Misfit, Locked, Depth}
+use Rattle.refusal.specs.declared.reason.Reason.TheVariants.{Short, Mark, Count, Domain, Pair, Order, Stray, Rules, Tail, Value, Variable, Room, Lent, Full, Bare, Done, Misfit, Locked, Depth, Triple, Many}
 use Rattle.refusal.specs.declared.reason.Fault.{Fault}
 use Rattle.refusal.specs.Reason.{number_of}
 use Rattle.buffer.specs.Stored.{joined, together}
@@ -107,6 +107,8 @@ number_small Done = omega arith
 number_small Misfit = omega arith
 number_small Locked = omega arith
 number_small Depth = omega arith
+number_small Triple = omega arith
+number_small Many = omega arith
 
 pub fault_long : (e : Fault) → e.place < 10 ^ 20 → length (fault_text e) ≤ 53
 unfolding fault_text

@@ -1,5 +1,5 @@
 -- What judging and marking tell before any play, and the text of an accepted file.
-use Prim.Native.Nat.{ℕ, ◌≤◌, ◌<◌}
+use Prim.Native.Nat.{ℕ, ◌+◌, ◌≤◌, ◌<◌}
 use mathlib.Core.Path.{◌≡◌, refl, sym, ap, ap₂, subst, ◌∙◌}
 use mathlib.Core.Bool.{Bool, true, false, cond}
 use mathlib.Core.List.{List, [], ◌∷◌, ◌++◌}
@@ -24,18 +24,18 @@ use Rattle.file_reader.specs.declared.Head.{Head}
 use Rattle.file_records.specs.Records.{verdict_of}
 use Rattle.rule_set.proofs.RuleSetLaws.{set_most}
 use Rattle.file_reader.specs.Used.{rules_used}
-use Rattle.file_reader.proofs.Accepted.{Shows, accepted, universal-shown}
+use Rattle.file_reader.proofs.Accepted.{Shows, accepted, variables_and_ternaries, universal-shown}
 use Rattle.file_reader.proofs.UsedLaws.{used_set}
 use Rattle.game.specs.Problem.{Problem}
-use Rattle.game.specs.Winning.{verdict, winning_values}
+use Rattle.game.specs.Ternary.{TernaryProblem, ternary_verdict, ternary_winning}
 use Rattle.theory.proofs.TurnLists.{legal_in}
-use Rattle.file_decoder.specs.FileProblem.{problem_of}
+use Rattle.file_decoder.specs.FileProblem.{problem_of, ternary_of}
 use Rattle.file_decoder.proofs.ReadLaws.{read_refused, read_fine}
 use Rattle.position.specs.declared.Position.{Position}
 use Rattle.position.specs.Position.{shown, plays_of, fits_in}
 use Rattle.position.proofs.Fitting.{legal-fits}
-use Rattle.search_run.specs.Run.{room_needed, held_room}
-use Rattle.judging.specs.Tests.{position_test, judge_test}
+use Rattle.search_run.specs.Run.{held_room}
+use Rattle.judging.specs.Tests.{position_test, room_for, judge_test}
 use Rattle.judging.proofs.TestLaws.{room_held}
 use Rattle.judging.specs.Judging.{told, judge_reply, judge_told}
 use Rattle.marking.specs.declared.Marks.{Marks}
@@ -46,23 +46,26 @@ use Rattle.reporting.specs.Reporting.{problem_text, report_of, Prints, ReportsAc
 
 -- ---- before any play the tests are fine
 
-module _ (P : Problem) (set : ℕ) (small : P.n ≤ 32) (rules : set ≤ greatest_set) where
-  fresh-fits : T (fits_in (shown 0 []) P.n P.domain)
-  fresh-fits =
-      legal-fits P P.n P.domain [] 0 refl (sym (take_all P.n P.domain (omega (arith, P.sized))))
-      (legal_in P [] (omega arith) (λ j h. absurd (omega arith))) (omega arith)
+module _ (J : TernaryProblem) (set : ℕ) (small : J.binary.n + J.ternary ≤ 32) (rules : set ≤ greatest_set) where
+  abbrev own : Problem
+  own = J.binary
 
-  fresh-position : position_test P.n P.domain (shown 0 []) set ≡ Fine
+  fresh-fits : T (fits_in (shown 0 []) own.n own.domain)
+  fresh-fits =
+      legal-fits own own.n own.domain [] 0 refl (sym (take_all own.n own.domain (omega (arith, own.sized))))
+      (legal_in own [] (omega arith) (λ j h. absurd (omega arith))) (omega arith)
+
+  fresh-position : position_test own.n own.domain (shown 0 []) set ≡ Fine
   unfolding position_test is_rule_set
   fresh-position = then_ok _ _ (need_ok _ _ (le-leb set greatest_set rules)) (need_ok _ _ (holds fresh-fits))
 
-  fresh_judge : judge_test P.n P.domain (shown 0 []) set (room_needed P) held_room ≡ Fine
+  fresh_judge : judge_test own.n own.domain (shown 0 []) set (room_for J) held_room ≡ Fine
   unfolding judge_test
-  fresh_judge = then_ok _ _ fresh-position (room_held P small)
+  fresh_judge = then_ok _ _ fresh-position (room_held J small)
 
-  fresh_mark : 0 < P.n → mark_test P.n P.domain (shown 0 []) set (room_needed P) held_room ≡ Fine
+  fresh_mark : 0 < own.n → mark_test own.n own.domain (shown 0 []) set (room_for J) held_room ≡ Fine
   unfolding mark_test shown
-  fresh_mark h = then_ok _ _ fresh-position (then_ok _ _ (need_ok _ _ (lt-ltb 0 P.n h)) (room_held P small))
+  fresh_mark h = then_ok _ _ fresh-position (then_ok _ _ (need_ok _ _ (lt-ltb 0 own.n h)) (room_held J small))
 
 -- ---- what is told then
 
@@ -102,31 +105,34 @@ module _ (f : List ℕ) (fine : verdict_of f ≡ Fine) (p : Position) (set words
   abbrev P : Problem
   P = problem_of f fine
 
-  few : P.n ≤ 32
-  unfolding problem_of
-  few = (accepted f fine).head.counts.most
+  abbrev J : TernaryProblem
+  J = ternary_of f fine
+
+  few : J.binary.n + J.ternary ≤ 32
+  unfolding problem_of ternary_of
+  few = variables_and_ternaries f fine
 
   some : 0 < P.n
   unfolding problem_of
   some = (accepted f fine).head.counts.some
 
-  pub won-first : (r : Result Bool Refusal) → told r ≡ judge_told f p set words → result_unwrap_or r false ≡ verdict P []
-  unfolding judge_told judge_reply replied_for plays_of shown
+  pub won-first : (r : Result Bool Refusal) → told r ≡ judge_told f p set words → result_unwrap_or r false ≡ ternary_verdict J []
+  unfolding judge_told judge_reply replied_for plays_of shown ternary_of
   won-first r e =
       won_says r
       ∙ ap says_one
       (e
       ∙ read_fine f _ _ fine
-      ∙ rw (fresh, long) (ap (λ (t : Test). replied_for t (cond (verdict P []) 1 0 ∷ [])) (fresh_judge P set few rules)))
-      ∙ one_says (verdict P [])
+      ∙ rw (fresh, long) (ap (λ (t : Test). replied_for t (cond (ternary_verdict J []) 1 0 ∷ [])) (fresh_judge J set few rules)))
+      ∙ one_says (ternary_verdict J [])
 
-  pub marks_first : (r : Result Marks Refusal) (m : Marks) → ResultUnwrapsOrElse r (λ z. (z.winning ≡ 0) × (z.domain ≡ 0)) m → toldMarks r ≡ mark_told f p set words → m ≡ record { winning = winning_values P []; domain = get_or P.domain 0 0 }
-  unfolding mark_told mark_reply replied_for plays_of shown masks_in
+  pub marks_first : (r : Result Marks Refusal) (m : Marks) → ResultUnwrapsOrElse r (λ z. (z.winning ≡ 0) × (z.domain ≡ 0)) m → toldMarks r ≡ mark_told f p set words → m ≡ record { winning = ternary_winning J []; domain = get_or J.binary.domain 0 0 }
+  unfolding mark_told mark_reply replied_for plays_of shown masks_in ternary_of
   marks_first r m d e =
-      let t : toldMarks r ≡ replied (winning_values P [] ∷ get_or P.domain 0 0 ∷ []) =
+      let t : toldMarks r ≡ replied (ternary_winning J [] ∷ get_or P.domain 0 0 ∷ []) =
       e
       ∙ read_fine f _ _ fine
-      ∙ rw (fresh, long) (ap (λ (t : Test). replied_for t (winning_values P [] ∷ get_or P.domain 0 0 ∷ [])) (fresh_mark P set few rules some)) in
+      ∙ rw (fresh, long) (ap (λ (t : Test). replied_for t (ternary_winning J [] ∷ get_or P.domain 0 0 ∷ [])) (fresh_mark J set few rules some)) in
       marks_in r m d ∙ ap masks_in t
 
 -- ---- the texts
@@ -141,8 +147,8 @@ reply_same n m s e u g h = rw (s, e, u, g, h)
 
 -- The text of an accepted file by the reading's numbers.
 accepted_text : (f : List ℕ) (h : Head) (s : Shows f h)
-    → reply_text h.n h.m (rules_used h.rules) (verdict (problem_of f s.fine) []) 0 (bit h.universal 0) (get_or (problem_of f s.fine).domain 0 0) (winning_values (problem_of f s.fine) []) ≡ report_of f
-unfolding report_of problem_text problem_of
+    → reply_text h.n h.m (rules_used h.rules) (ternary_verdict (ternary_of f s.fine) []) 0 (bit h.universal 0) (get_or (ternary_of f s.fine).binary.domain 0 0) (ternary_winning (ternary_of f s.fine) []) ≡ report_of f
+unfolding report_of problem_text ternary_of problem_of
 accepted_text f h s =
     rw (s.set, s.variables, s.constraints, s.bits, universal-shown f 0 (accepted f s.fine).head.counts.some) (sym (read_fine f _ _ s.fine))
 

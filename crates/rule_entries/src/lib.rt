@@ -1,4 +1,4 @@
-// Rules 1 to 5 alone, on a lent list of n masks: each call reads the file first, then tests what it is lent. It rests on `file_decoder`,
+// Rules 1 to 5 alone, on a lent list of a mask for each variable of the ordinary problem: each call reads the file first, then tests what it is lent. It rests on `ternary_decoder`,
 // `rule_lend` and the crates of these rules. `arc`, `forward_check`, `look_ahead`, `pure` and `interchangeable` are open to callers.
 #![tactic(auto)]
 
@@ -10,19 +10,19 @@ mod forward_alone;
 mod narrow_alone;
 
 use arc_alone::arc_in;
-use file_decoder::decode;
 use forward_alone::{ahead_in, forward_in};
 use narrow_alone::{interchangeable_in, pure_in};
 use refusal::Refusal;
 pub use rule_forward::Ahead;
 pub use rule_narrow::PureNames;
+use ternary_decoder::decode_ordinary;
 
 // Rule 1: whether it is a loss. The list is left without dead values, also in a loss.
 pub fn arc(f: &[u8], list: &mut [u16]) -> Result<bool, Refusal>
     ensures result_value { told result ≡ arc_told f.now list.old }
     ensures list_after { list.new ≡ arc_left f.now list.old }
 {
-    let arrays = decode(f)?;
+    let arrays = decode_ordinary(f)?;
     Ok(arc_in(&arrays, list)?)
 }
 
@@ -37,7 +37,7 @@ pub fn forward_check(
     ensures result_value { told_check result ≡ forward_told f.now list.old x a }
     ensures list_after { list.new ≡ forward_left f.now list.old x a }
 {
-    let arrays = decode(f)?;
+    let arrays = decode_ordinary(f)?;
     Ok(forward_in(&arrays, list, x, a)?)
 }
 
@@ -45,7 +45,7 @@ pub fn forward_check(
 pub fn look_ahead(f: &[u8], list: &[u16], x: usize) -> Result<Option<Ahead>, Refusal>
     ensures { told_look result ≡ ahead_told f.now list.now x }
 {
-    let arrays = decode(f)?;
+    let arrays = decode_ordinary(f)?;
     Ok(ahead_in(&arrays, list, x)?)
 }
 
@@ -55,7 +55,7 @@ pub fn pure(f: &[u8], list: &[u16], x: usize) -> Result<PureNames, Refusal>
     ensures told { told_pure result ≡ pure_told f.now list.now x }
     ensures shown { names_shown result ≡ pure_shown f.now list.now x }
 {
-    let arrays = decode(f)?;
+    let arrays = decode_ordinary(f)?;
     Ok(pure_in(&arrays, list, x)?)
 }
 
@@ -63,6 +63,6 @@ pub fn pure(f: &[u8], list: &[u16], x: usize) -> Result<PureNames, Refusal>
 pub fn interchangeable(f: &[u8], list: &[u16], x: usize) -> Result<u16, Refusal>
     ensures { told_values result ≡ interchangeable_told f.now list.now x }
 {
-    let arrays = decode(f)?;
+    let arrays = decode_ordinary(f)?;
     Ok(interchangeable_in(&arrays, list, x)?)
 }

@@ -18,9 +18,10 @@ use Rattle.file_reader.proofs.Accepted.{Shows, variables_most}
 use Rattle.game.specs.Problem.{Problem}
 use Rattle.solver_arrays.specs.declared.arrays.Arrays.{Arrays}
 use Rattle.solver_arrays.specs.Arrays.{States}
-use Rattle.file_decoder.specs.FileProblem.{problem_of, ordinary_of}
+use Rattle.file_decoder.specs.FileProblem.{problem_of}
 use Rattle.file_decoder.specs.Decoded.{FileGiven}
 use Rattle.file_decoder.proofs.FileLaws.{problem_size, problem_domains}
+use Rattle.file_decoder.proofs.Stated.{given_domain}
 use Rattle.file_decoder.proofs.ReadLaws.{read_refused, read_fine}
 use Rattle.position.specs.declared.Position.{Position}
 use Rattle.session.specs.declared.Opened.{Opened}
@@ -36,10 +37,9 @@ read_most f h s = omega (arith, s.variables, variables_most f s.fine)
 
 -- The arrays decoded state the file's problem with their own variables.
 pub own_posed : (f : List ℕ) (A : Arrays) (g : FileGiven f A) → PosesOwn (problem_of f g.fine) A
-unfolding ordinary_of
 own_posed f A g =
     let e : A.n ≡ A.own = sym g.poses.states.size ∙ problem_size f g.fine ∙ sym g.size in
-    record { states = subst (λ (k : ℕ). States (problem_of f g.fine) k A) e g.poses.states; domain = g.domain }
+    record { states = subst (λ (k : ℕ). States (problem_of f g.fine) k A) e g.poses.states; domain = given_domain f A g }
 
 module _ (f : List ℕ) (p : Position) where
   -- Over a refused file.

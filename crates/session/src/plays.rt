@@ -2,7 +2,8 @@
 ghost use Rattle.std.specs.Prelude.{◌≡◌, ◌≤◌};
 ghost use Rattle.session.specs.Plays.{play_in, take_back_in, lock_in, unlock_in};
 
-use position::{Position, fit_test, held, holds, popped, pushed};
+use mask::holds;
+use position::{Position, fit_test, held, popped, pushed};
 use refusal::{Reason, needed};
 
 pub fn play_in(n: usize, domains: &[u16; 32], p: Position, value: usize) -> Result<Position, Reason>

@@ -10,12 +10,12 @@ use Rattle.mask.proofs.Logic.{and_out}
 use Rattle.std.specs.Prelude.{Ok, Err, is_ok}
 use Rattle.refusal.specs.Chain.{Verdict, Fine}
 use Rattle.refusal.specs.Told.{Told, replied, refused, refused_at}
-use Rattle.file_decoder.specs.FileProblem.{problem_of}
+use Rattle.file_decoder.specs.FileProblem.{ternary_of}
 use Rattle.file_records.specs.Records.{verdict_of}
-use Rattle.game.specs.Problem.{Problem}
+use Rattle.game.specs.Ternary.{TernaryProblem}
 use Rattle.game.specs.Calls.{Call}
 use Rattle.rule_set.specs.RuleSet.{greatest_set}
-use Rattle.search_run.specs.Run.{room_needed}
+use Rattle.judging.specs.Tests.{room_for}
 use Rattle.session.specs.History.{reached_by}
 use Rattle.small_problems.specs.Questions.{Question, answer}
 use Rattle.small_problems.specs.Table.{Line, ◌gives◌, Stage, after, Row}
@@ -73,13 +73,13 @@ same_told_lem (refused e) (refused_at d p) t = elim t [ ]
 same_told_lem (refused_at e p) b t = elim t [ ]
 
 -- Each line names what is told plainly.
-unfoldable pub lines_pass : List ℕ → Problem → List Call → List Line → Bool
-lines_pass f P cs [] = true
-lines_pass f P cs ((q gives t) ∷ ls) = same_told (plainly f P cs q) t && lines_pass f P cs ls
+unfoldable pub lines_pass : List ℕ → TernaryProblem → List Call → List Line → Bool
+lines_pass f J cs [] = true
+lines_pass f J cs ((q gives t) ∷ ls) = same_told (plainly f J cs q) t && lines_pass f J cs ls
 
-unfoldable pub stages_pass : List ℕ → Problem → List Stage → Bool
-stages_pass f P [] = true
-stages_pass f P (after cs ls ∷ ss) = lines_pass f P cs ls && stages_pass f P ss
+unfoldable pub stages_pass : List ℕ → TernaryProblem → List Stage → Bool
+stages_pass f J [] = true
+stages_pass f J (after cs ls ∷ ss) = lines_pass f J cs ls && stages_pass f J ss
 
 -- b, and then what is tested with it.
 unfoldable pub and_then : (b : Bool) → (T b → Bool) → Bool
@@ -101,23 +101,23 @@ unfoldable pub rows_pass : List Row → Bool
 rows_pass [] = true
 rows_pass (r ∷ rs) = passes r && rows_pass rs
 
-module _ (f : List ℕ) (fine : verdict_of f ≡ Fine) (set words : ℕ) (known : set ≤ greatest_set) (enough : room_needed (problem_of f fine) ≤ words) where
-  abbrev P : Problem
-  P = read_once f fine
+module _ (f : List ℕ) (fine : verdict_of f ≡ Fine) (set words : ℕ) (known : set ≤ greatest_set) (enough : room_for (ternary_of f fine) ≤ words) where
+  abbrev J : TernaryProblem
+  J = read_once f fine
 
-  line_holds : (cs : List Call) (q : Question) → answer f set words (reached_by f cs) q ≡ plainly f P cs q
-  line_holds cs q = answer_plain f set words fine known enough cs q ∙ ap (λ (P : Problem). plainly f P cs q) (once_is f fine)
+  line_holds : (cs : List Call) (q : Question) → answer f set words (reached_by f cs) q ≡ plainly f J cs q
+  line_holds cs q = answer_plain f set words fine known enough cs q ∙ ap (λ (J : TernaryProblem). plainly f J cs q) (once_is f fine)
 
-  lines_hold : (cs : List Call) (ls : List Line) → T (lines_pass f P cs ls) → LinesHold f set words cs ls
+  lines_hold : (cs : List Call) (ls : List Line) → T (lines_pass f J cs ls) → LinesHold f set words cs ls
   unfolding lines_pass LinesHold
   lines_hold cs [] t = tt
   lines_hold cs ((q gives r) ∷ ls) t =
-      let h = and_out (same_told (plainly f P cs q) r) (lines_pass f P cs ls) t in (line_holds cs q ∙ same_told_lem _ r h.0, lines_hold cs ls h.1)
+      let h = and_out (same_told (plainly f J cs q) r) (lines_pass f J cs ls) t in (line_holds cs q ∙ same_told_lem _ r h.0, lines_hold cs ls h.1)
 
-  stages_hold : (ss : List Stage) → T (stages_pass f P ss) → StagesHold f set words ss
+  stages_hold : (ss : List Stage) → T (stages_pass f J ss) → StagesHold f set words ss
   unfolding stages_pass StagesHold
   stages_hold [] t = tt
-  stages_hold (after cs ls ∷ ss) t = let h = and_out (lines_pass f P cs ls) (stages_pass f P ss) t in (lines_hold cs ls h.0, stages_hold ss h.1)
+  stages_hold (after cs ls ∷ ss) t = let h = and_out (lines_pass f J cs ls) (stages_pass f J ss) t in (lines_hold cs ls h.0, stages_hold ss h.1)
 
 -- A row that passes holds.
 pass_holds : (r : Row) → T (passes r) → RowHolds r

@@ -1,4 +1,4 @@
--- The claim: G1 to G10 hold.
+-- The claim: G1 to G10 and card 7's job hold.
 pub mod SmallProblems
 -- A test of rows that computes; rows that pass hold.
 pub mod Check

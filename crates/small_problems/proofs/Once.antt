@@ -13,7 +13,8 @@ use Rattle.file_lookup.specs.Lookup.{look_for, look_up}
 use Rattle.file_constraints.specs.Pairs.{found, allows, constrained_of, compatible_of}
 use Rattle.game.specs.Problem.{Problem}
 use Rattle.game.specs.Lists.{list_of}
-use Rattle.file_decoder.specs.FileProblem.{problem_of}
+use Rattle.game.specs.Ternary.{TernaryProblem}
+use Rattle.file_decoder.specs.FileProblem.{problem_of, ternary_with, ternary_of}
 
 module _ (f : List ℕ) where
   -- The parts that go by the verdict v.
@@ -43,9 +44,16 @@ module _ (f : List ℕ) where
       free = coe 0 i (k. (x y : ℕ) → constrained_by (fine k) x y ≡ false → (a b : ℕ) → T (compatible_by (fine k) x a y b)) free;
     }
 
-    unfoldable pub read_once : Problem
-    read_once = on_the_way 1
+    -- The same of the problem with its three-way constraints.
+    open ternary_of f fine use {order, filled}
 
-    pub once_is : problem_of f fine ≡ read_once
-    unfolding problem_of look_up compatible_of constrained_of on_the_way read_once
-    once_is = λ i. on_the_way i
+    unfoldable pub all_the_way : 𝕀 → TernaryProblem
+    unfolding ternary_of problem_of on_the_way
+    all_the_way i = ternary_with f (on_the_way i) order filled
+
+    unfoldable pub read_once : TernaryProblem
+    read_once = all_the_way 1
+
+    pub once_is : ternary_of f fine ≡ read_once
+    unfolding problem_of ternary_of look_up compatible_of constrained_of on_the_way all_the_way read_once
+    once_is = λ i. all_the_way i

@@ -3,9 +3,9 @@ use Rattle.std.specs.Prelude.{ℕ, ◌≤◌, ◌<◌, ◌≡◌, List, [], ◌�
 use Rattle.rule_set.specs.RuleSet.{greatest_set}
 use Rattle.refusal.specs.Chain.{Fine}
 use Rattle.file_reader.specs.Reading.{verdict_of}
-use Rattle.file_decoder.specs.FileProblem.{problem_of}
+use Rattle.file_decoder.specs.FileProblem.{ternary_of}
 use Rattle.game.specs.Calls.{Call}
-use Rattle.search_run.specs.Run.{room_needed}
+use Rattle.judging.specs.Tests.{room_for}
 use Rattle.session.specs.History.{reached_by}
 use Rattle.small_problems.specs.Questions.{answer}
 use Rattle.small_problems.specs.Table.{Line, ◌gives◌, Stage, after, Row}
@@ -24,7 +24,7 @@ module _ (f : List ℕ) (set words : ℕ) where
 pub record RowHolds (r : Row) : Type 0 where
   pub bytes : (k : ℕ) → get_or r.file k 0 < 256
   pub fine : verdict_of r.file ≡ Fine
-  pub answered : (set words : ℕ) → set ≤ greatest_set → room_needed (problem_of r.file fine) ≤ words → StagesHold r.file set words r.stages
+  pub answered : (set words : ℕ) → set ≤ greatest_set → room_for (ternary_of r.file fine) ≤ words → StagesHold r.file set words r.stages
 
 unfoldable pub RowsHold : List Row → Type 0
 RowsHold [] = Unit {0}

@@ -1,4 +1,4 @@
--- The small problems G1 to G10 of document 01, as a table.
+-- The small problems G1 to G10 of document 01 and the 31-byte job of card 7, as a table.
 
 -- Problem files laid out from their variables and constraints ("The job file").
 pub mod Files

@@ -1,10 +1,10 @@
--- Document 01, "Small jobs", row by row. Masks are numbers: 3 is {0, 1}, 1 is {0}, 2 is {1}, 32 is {5}.
+-- Document 01, "Small jobs", row by row, and the 31-byte job of card 7. Masks are numbers: 3 is {0, 1}, 1 is {0}, 2 is {1}, 32 is {5}.
 use Rattle.std.specs.Prelude.{ℕ, List, [], ◌∷◌, ◌++◌}
 use Rattle.refusal.specs.Told.{Told, replied, refused}
 use Rattle.game.specs.Lists.{spread}
 use Rattle.game.specs.Calls.{Call, play, take_back}
-use Rattle.small_problems.specs.Files.{existential, universal, between, file}
-use Rattle.small_problems.specs.Questions.{Question, size, reading, looking_up, judging, marking, opening, calling, arc, arc_leaving, pure_at, interchangeable_at}
+use Rattle.small_problems.specs.Files.{existential, universal, between, among, file, file_with}
+use Rattle.small_problems.specs.Questions.{Question, size, reading, looking_up, looking_up_ternary, judging, marking, opening, calling, arc, arc_leaving, pure_at, interchangeable_at}
 
 -- A question and its answer.
 infix 70 ◌gives◌
@@ -43,9 +43,16 @@ loss = number 1
 abbrev no_loss : Told
 no_loss = number 0
 
--- n variables, m constraints, and the mask of the universal ones.
-abbrev counts : ℕ → ℕ → ℕ → Told
-counts n m u = replied (n ∷ m ∷ u ∷ [])
+-- n variables, m constraints of two and t of three, and the mask of the universal ones.
+abbrev counts : ℕ → ℕ → ℕ → ℕ → Told
+counts n m t u = replied (n ∷ m ∷ t ∷ u ∷ [])
+
+-- Where a body begins, and how long it is.
+abbrev body : ℕ → ℕ → Told
+body place length = replied (place ∷ length ∷ [])
+
+abbrev none : Told
+none = replied []
 
 -- The good values of the next variable, and its domain.
 abbrev good : ℕ → ℕ → Told
@@ -83,7 +90,7 @@ abbrev g1_lines : List Line
 g1_lines = judging gives yes ∷ marking gives good 3 3 ∷ opening gives opens (3 ∷ 3 ∷ []) (2 ∷ 2 ∷ []) ∷ []
 
 abbrev G1 : Row
-G1 = fresh g1 (size gives number 51 ∷ reading gives counts 2 1 1 ∷ looking_up 0 1 gives number 17 ∷ g1_lines)
+G1 = fresh g1 (size gives number 51 ∷ reading gives counts 2 1 0 1 ∷ looking_up 0 1 gives number 17 ∷ g1_lines)
 
 -- "G2: shift, day; must differ. No; both bad. Arc empties choice 0."
 abbrev G2 : Row
@@ -134,5 +141,23 @@ G10 = row g1
     ∷ after [] (calling take_back gives refused 21 ∷ calling (play 2) gives refused 10 ∷ [])
     ∷ [])
 
+-- Document 02, card 7: existential, universal, existential; the triples are (0, 0, 1) and (0, 1, 0). Yes; 0 good, 1 bad. After 0 both values of variable 1 are
+-- good; after 0, 0 of variable 2 only 1 is, and open values keep to `CT`. Played out as 0, 0, 0: no. Rule 1 on four masks, the last that of the triples'
+-- places, leaves {0} of variable 0.
+abbrev pub triples : List ℕ
+triples = file_with (existential 3 ∷ universal 3 ∷ existential 3 ∷ []) [] (among 0 1 2 (0 ∷ 0 ∷ 1 ∷ 0 ∷ 1 ∷ 0 ∷ []) ∷ [])
+
+abbrev Triples : Row
+Triples = row triples
+    (after []
+    (size gives number 31 ∷ reading gives counts 3 0 1 2 ∷ looking_up 0 1 gives none ∷ looking_up_ternary 0 gives body 19 10 ∷ looking_up_ternary 1 gives none
+    ∷ judging gives yes ∷ marking gives good 1 3 ∷ opening gives opens (3 ∷ 3 ∷ 3 ∷ []) (2 ∷ 2 ∷ 2 ∷ [])
+    ∷ arc (3 ∷ 3 ∷ 3 ∷ 3 ∷ []) gives no_loss ∷ arc_leaving (3 ∷ 3 ∷ 3 ∷ 3 ∷ []) gives replied (1 ∷ 3 ∷ 3 ∷ 3 ∷ []) ∷ arc (3 ∷ 3 ∷ 3 ∷ []) gives refused 13 ∷ [])
+    ∷ after (play 0 ∷ []) (judging gives yes ∷ marking gives good 3 3 ∷ [])
+    ∷ after (play 1 ∷ []) (judging gives no ∷ marking gives good 0 3 ∷ [])
+    ∷ after (play 0 ∷ play 0 ∷ []) (judging gives yes ∷ marking gives good 2 3 ∷ opening gives opens (1 ∷ 1 ∷ 3 ∷ []) (1 ∷ 1 ∷ 2 ∷ []) ∷ [])
+    ∷ after (play 0 ∷ play 0 ∷ play 0 ∷ []) (judging gives no ∷ marking gives refused 22 ∷ calling (play 0) gives refused 20 ∷ [])
+    ∷ [])
+
 abbrev pub table : List Row
-table = G1 ∷ G2 ∷ G3 ∷ G4 ∷ G5 ∷ G6 ∷ G7 ∷ G8 ∷ G9 ∷ G10 ∷ []
+table = G1 ∷ G2 ∷ G3 ∷ G4 ∷ G5 ∷ G6 ∷ G7 ∷ G8 ∷ G9 ∷ G10 ∷ Triples ∷ []

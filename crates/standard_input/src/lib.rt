@@ -6,9 +6,10 @@ ghost use Rattle.std.specs.Prelude.{◌≡◌, ◌≤◌, length, IfOk};
 use std::io;
 use std::io::Read;
 
-// How many bytes are read for a problem file: the longest one has 17,994 (`longest`, file_reader/proofs/Longest.antt), and one byte more
-// tells that the input is longer.
-pub const INPUT: usize = 17995;
+// How many bytes are read for a problem file. The longest one has 17,994 (`longest`, file_reader/proofs/Longest.antt), but more decide with what
+// number an input is refused (`long_tail`): behind the longest constraints a record TT may stand at 17,992, and only with its whole body, 4 bytes
+// and 3 * 255, behind the 2 of its mark is it refused with 27 and not with 1.
+pub const INPUT: usize = 18763;
 
 // An array of N zeros, of which callers know the length alone: a proof that sees a long array's elements computes them one by one.
 pub fn zeros<const N: usize>() -> [u8; N]

@@ -39,7 +39,8 @@ fn written_back(f: &[u8], r: Reading, numbers: &[u16; 8928]) -> bool {
     let domains = r.domains;
     let d = front(&domains, n);
     let c = front(numbers, 18 * m);
-    let written = write(&mut buf, n, m, r.head.rules, universal, d, c);
+    // The stored files have no three-way constraint.
+    let written = write(&mut buf, n, m, r.head.rules, universal, d, c, &[]);
     written.is_ok_and(|k| front(&buf, k) == f)
 }
 

@@ -4,12 +4,12 @@ ghost use Rattle.std.specs.Prelude.{◌≡◌, true, ◌≤◌, ◌<◌};
 ghost use Rattle.solver_arrays.specs.Words.{Nonzero};
 ghost use Rattle.search_rules.specs.RuledTurn.{Stated};
 
-use file_decoder::decode;
 use mask::single;
 use position::Position;
 use rule_set::RuleSet;
 use search_rules::run_rules;
 use solver_arrays::{Arrays, Words, put_reason};
+use ternary_decoder::decode_ordinary;
 
 // The words of a turn with these domains and no reasons.
 fn words_of(domains: &[u16; 32]) -> Words {
@@ -63,6 +63,6 @@ fn ruled_in(arrays: &Arrays, set: RuleSet, p: Position) -> Option<u32>
 // The same in the turn after the plays of p, in a search from the start under the set of this number; none where one of them is refused.
 pub fn ruled_along(f: &[u8], p: Position, set: usize) -> Option<u32> {
     let set = RuleSet::new(set).ok()?;
-    let arrays = decode(f).ok()?;
+    let arrays = decode_ordinary(f).ok()?;
     ruled_in(&arrays, set, p)
 }

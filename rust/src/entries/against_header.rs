@@ -55,10 +55,11 @@ macro_rules! layout {
 #[test]
 fn structs_as_declared() {
     let header = structs(&code());
-    let ours: [(&str, Layout); 18] = [
+    let ours: [(&str, Layout); 19] = [
         ("kb_position", layout!(Position: plays, depth, values)),
-        ("kb_reading", layout!(Reading: answer.kind, answer.number, answer.place, n, m, universal, given, rules, domains)),
+        ("kb_reading", layout!(Reading: answer.kind, answer.number, answer.place, n, m, t, universal, given, rules, domains)),
         ("kb_found", layout!(Found: answer.kind, answer.number, answer.place, found, rows)),
+        ("kb_found_triples", layout!(FoundTriples: answer.kind, answer.number, answer.place, found, body, length)),
         ("kb_written", layout!(Written: answer.kind, answer.number, answer.place, length)),
         ("kb_answer", layout!(Answer: kind, number, place)),
         ("kb_moved", layout!(Moved: answer, position)),
@@ -132,7 +133,7 @@ fn our_functions() -> Vec<String> {
 #[test]
 fn functions_as_declared() {
     let header = header_functions(&code());
-    assert_eq!(header.len(), 29);
+    assert_eq!(header.len(), 30);
     assert_eq!(header, our_functions());
 }
 

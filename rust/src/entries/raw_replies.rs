@@ -28,6 +28,7 @@ fn empty_file_with_any_pointer() {
         unsafe {
             assert_eq!(kb_read(file, 0), Reading { answer, ..Default::default() });
             assert_eq!(kb_look_up(file, 0, 9, 9), Found { answer, ..Default::default() });
+            assert_eq!(kb_look_up_triples(file, 0, u64::MAX), FoundTriples { answer, ..Default::default() });
             assert_eq!(kb_play(file, 0, MISFIT, 99), Moved { answer, position: MISFIT });
             assert_eq!(kb_take_back(file, 0, MISFIT), Moved { answer, position: MISFIT });
             assert_eq!(kb_lock(file, 0, MISFIT), Moved { answer, position: MISFIT });
@@ -108,10 +109,19 @@ fn refused_calls_with_any_pointer() {
             assert_eq!(kb_judge_formula(file, length, bytes, 0), judged);
             assert_eq!(kb_group(file, length, 1, bytes, 0), Written { answer: refused(1, 11), length: 0 });
             assert_eq!(kb_group(file, length, 0, bytes, 0), Written { answer: refused(1, 12), length: 0 });
-            let written = |n, domains, count| kb_write(bytes, 0, n, 0, 0, 0, 0, domains, count, null(), 0);
+            let written = |n, domains, count| kb_write(bytes, 0, n, 0, 0, 0, 0, domains, count, null(), 0, words, 0);
             assert_eq!(written(0, null(), 0), Written { answer: refused(1, 3), length: 0 });
             assert_eq!(written(1, null(), 0), Written { answer: refused(1, 13), length: 0 });
             assert_eq!(written(1, &32, 1), Written { answer: refused(1, 12), length: 0 });
+            // A count whose triples are not there, more numbers of them than a byte holds; and one that is no count.
+            for (triples, number) in [(&[0, 1, 2][..], 13), (&[0, 1, 2, 256, 0, 0, 0], 13), (&[0, 1, 2, 0], 26)] {
+                let (list, count) = (triples.as_ptr(), triples.len());
+                let reply = kb_write(bytes, 0, 1, 0, 0, 0, 0, &32, 1, null(), 0, list, count);
+                assert_eq!(reply, Written { answer: refused(1, number), length: 0 });
+            }
+            for number in [0, 1, 32, 1 << 32, u64::MAX] {
+                assert_eq!(kb_look_up_triples(file, length, number), FoundTriples::default());
+            }
         }
     }
 }

@@ -1,12 +1,14 @@
-//! The game by its definition.
+//! The game by its definition, three-way constraints among what is looked at at its end. Nothing here knows of hidden variables.
 
 use super::{Constraint, Problem};
 use kickballbox::{Marks, Reason, Refusal};
+use std::ops::Range;
 
 /// The game, with a bound on the values tried.
 pub struct Game<'a> {
     pub problem: &'a Problem,
-    /// Whether a play that breaks a constraint with earlier plays is given up at once. The verdict is the same, since no domain is empty.
+    /// Whether a play that breaks a constraint, of two variables or of three, with earlier plays is given up at once. The verdict is the
+    /// same, since no domain is empty.
     pub early: bool,
     pub budget: u64,
 }
@@ -21,10 +23,16 @@ impl<'a> Game<'a> {
         t.rows[plays[t.i] as usize] >> plays[t.j] & 1 == 1
     }
 
+    /// Whether the plays break a constraint whose last variable is among these.
+    fn breaks(&self, plays: &[u8], last: Range<usize>) -> bool {
+        self.problem.constraints.iter().any(|t| last.contains(&t.j) && !self.holds(t, plays))
+            || self.problem.triples.iter().any(|t| last.contains(&t.variables[2]) && !t.holds(plays))
+    }
+
     /// Whether the position is won; none where the budget does not suffice.
     pub fn won(&mut self, plays: &[u8]) -> Option<bool> {
         let mut plays = plays.to_vec();
-        if self.early && self.problem.constraints.iter().any(|t| t.j < plays.len() && !self.holds(t, &plays)) {
+        if self.early && self.breaks(&plays, 0..plays.len()) {
             return Some(false);
         }
         self.turn(&mut plays)
@@ -33,7 +41,7 @@ impl<'a> Game<'a> {
     fn turn(&mut self, plays: &mut Vec<u8>) -> Option<bool> {
         let next = plays.len();
         if next == self.problem.domains.len() {
-            return Some(self.problem.constraints.iter().all(|t| self.holds(t, plays)));
+            return Some(!self.breaks(plays, 0..next));
         }
         let universal = self.problem.universal[next];
         for a in 0..16 {
@@ -42,7 +50,7 @@ impl<'a> Game<'a> {
             }
             self.budget = self.budget.checked_sub(1)?;
             plays.push(a);
-            let broken = self.early && self.problem.constraints.iter().any(|t| t.j == next && !self.holds(t, plays));
+            let broken = self.early && self.breaks(plays, next..next + 1);
             let won = if broken { Some(false) } else { self.turn(plays) };
             plays.pop();
             if won? != universal {

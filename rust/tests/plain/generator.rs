@@ -1,6 +1,6 @@
 //! Problems that look random.
 
-use super::{Constraint, Problem};
+use super::{Constraint, Problem, Triples};
 use kickballbox::Position;
 
 /// xorshift64.
@@ -59,7 +59,7 @@ pub struct Kind {
 /// value of the universal ones; of these, half lose a few pairs again. So there are long games that are won, and marks of both kinds.
 pub fn problem(kind: &Kind, random: &mut Random) -> Problem {
     let n = kind.n as usize;
-    let mut p = Problem { rules: None, universal: vec![], domains: vec![], constraints: vec![] };
+    let mut p = Problem { rules: None, universal: vec![], domains: vec![], constraints: vec![], triples: vec![] };
     if random.chance(40) {
         p.rules = Some(random.below(128) as u8);
     }
@@ -110,4 +110,42 @@ pub fn position_after(p: &Problem, plays: u64, random: &mut Random) -> Position 
     let values: Vec<u8> = p.domains[..plays as usize].iter().map(|domain| random.value(*domain)).collect();
     let depth = if random.chance(50) { 0 } else { random.below(plays + 1) };
     Position::after(&values).expect("at most 32 plays").with_depth(depth)
+}
+
+/// Puts so many three-way constraints into a problem, or one for each three variables where these are fewer, each with at most so many
+/// triples. Most problems get a plan: a value of each existential variable, which all triples permitted first have; those are as many as
+/// they can be, of any values of the universal variables. A few lose one of them again.
+pub fn add_triples(p: &mut Problem, count: u64, most: u64, random: &mut Random) {
+    let n = p.domains.len();
+    let mut threes = vec![];
+    for i in 0..n {
+        for j in i + 1..n {
+            threes.extend((j + 1..n).map(|k| [i, j, k]));
+        }
+    }
+    let plan: Vec<u16> = p.domains.iter().zip(&p.universal).map(|(&d, &all)| if all { d } else { 1 << random.value(d) }).collect();
+    let planned = random.chance(70);
+    for _ in 0..count.min(threes.len() as u64) {
+        let variables = threes.swap_remove(random.below(threes.len() as u64) as usize);
+        let values = variables.map(|x| (0..16u8).filter(|a| p.domains[x] >> a & 1 == 1).collect::<Vec<u8>>());
+        let mut all = vec![];
+        for &a in &values[0] {
+            for &b in &values[1] {
+                all.extend(values[2].iter().map(|&c| [a, b, c]));
+            }
+        }
+        for at in 1..all.len() {
+            all.swap(at, random.below(at as u64 + 1) as usize);
+        }
+        let fits = |triple: &[u8; 3]| planned && (0..3).all(|x| plan[variables[x]] >> triple[x] & 1 == 1);
+        all.sort_by_key(|triple| !fits(triple));
+        let fitting = all.iter().filter(|triple| fits(triple)).count() as u64;
+        all.truncate((1 + random.below(most)).max(fitting.min(most)) as usize);
+        if all.len() > 1 && random.chance(5) {
+            all.remove(0);
+        }
+        all.sort();
+        p.triples.push(Triples { variables, permitted: all });
+    }
+    p.triples.sort_by_key(|t| t.variables);
 }

@@ -42,6 +42,7 @@ pub fn part(p: &Problem, variables: &[usize]) -> Problem {
         universal: variables.iter().map(|x| p.universal[*x]).collect(),
         domains: variables.iter().map(|x| p.domains[*x]).collect(),
         constraints: p.constraints.iter().filter_map(|c| Some(Constraint { i: new(c.i)?, j: new(c.j)?, rows: c.rows })).collect(),
+        triples: vec![],
     }
 }
 
@@ -50,7 +51,7 @@ pub fn part(p: &Problem, variables: &[usize]) -> Problem {
 fn groups_by_hand() {
     let split = |n: usize, pairs: &[(usize, usize)]| {
         let constraints = pairs.iter().map(|&(i, j)| Constraint { i, j, rows: [1; 16] }).collect();
-        groups(&Problem { rules: None, universal: vec![false; n], domains: vec![1; n], constraints })
+        groups(&Problem { rules: None, universal: vec![false; n], domains: vec![1; n], constraints, triples: vec![] })
     };
     assert_eq!(split(4, &[(0, 3), (1, 2), (2, 3)]), [vec![0, 1, 2, 3]]);
     assert_eq!(split(5, &[(0, 2), (1, 3)]), [vec![0, 2], vec![1, 3], vec![4]]);
@@ -69,6 +70,7 @@ fn part_by_hand() {
         universal: vec![false, true, false, true],
         domains: vec![3, 1, 7, 15],
         constraints: vec![constraint(0, 2, 4), constraint(0, 3, 8), constraint(2, 3, 9)],
+        triples: vec![],
     };
     let part = part(&p, &[0, 2, 3]);
     let shown: Vec<(usize, usize, [u16; 16])> = part.constraints.iter().map(|c| (c.i, c.j, c.rows)).collect();

@@ -1,18 +1,21 @@
 //! A plain reading of document 01, written without the solver's sources: a reader that goes through the records one after another and
 //! a writer, here; the game by its definition (`game`), the calls on a position (`calls`), the rules (`rules`), the printed text (`text`),
-//! the problem as a boolean formula (`qdimacs`), its groups (`groups`), and a generator of problems (`generator`).
+//! the problem as a boolean formula (`qdimacs`), its groups (`groups`), the problem that three-way constraints are turned into (`ordinary`),
+//! and a generator of problems (`generator`).
 
 mod calls;
 mod game;
 mod generator;
 pub mod groups;
+mod ordinary;
 pub mod qdimacs;
 mod rules;
 mod text;
 
 pub use calls::{causes, clashing, fits, open_values, Call, PlainList};
 pub use game::Game;
-pub use generator::{position_after, problem, some_position, Kind, Random};
+pub use generator::{add_triples, position_after, problem, some_position, Kind, Random};
+pub use ordinary::ordinary;
 pub use text::text;
 
 use kickballbox::{Reading, Reason, Refusal, RuleSet};
@@ -24,6 +27,7 @@ pub struct Problem {
     pub universal: Vec<bool>,
     pub domains: Vec<u16>,
     pub constraints: Vec<Constraint>,
+    pub triples: Vec<Triples>,
 }
 
 #[derive(Clone)]
@@ -31,6 +35,21 @@ pub struct Constraint {
     pub i: usize,
     pub j: usize,
     pub rows: [u16; 16],
+}
+
+/// A three-way constraint: its variables ascending, and the triples of their values that it permits.
+#[derive(Clone)]
+pub struct Triples {
+    pub variables: [usize; 3],
+    pub permitted: Vec<[u8; 3]>,
+}
+
+impl Triples {
+    /// Whether the values played at its variables are permitted.
+    fn holds(&self, plays: &[u8]) -> bool {
+        let [i, j, k] = self.variables;
+        self.permitted.contains(&[plays[i], plays[j], plays[k]])
+    }
 }
 
 impl Problem {
@@ -87,7 +106,7 @@ fn records(file: &[u8]) -> Result<Problem, Refused> {
     if !(1..=32).contains(&n) || m > n * (n - 1) / 2 {
         return Err((3, 0));
     }
-    let mut problem = Problem { rules: None, universal: vec![], domains: vec![], constraints: vec![] };
+    let mut problem = Problem { rules: None, universal: vec![], domains: vec![], constraints: vec![], triples: vec![] };
     if rest.mark()? == b"RS" {
         let set = rest.body(1)?[0];
         if set >= 128 {
@@ -134,6 +153,25 @@ fn records(file: &[u8]) -> Result<Problem, Refused> {
         }
         problem.constraints.push(Constraint { i, j, rows });
     }
+    let mut last = None;
+    while rest.mark()? == b"TT" {
+        let at = rest.at;
+        // the count is the body's last byte before the triples
+        let count = rest.bytes.get(5).copied().unwrap_or(0);
+        let body = rest.body(4 + 3 * usize::from(count))?;
+        if n + problem.triples.len() == 32 {
+            return Err((27, at));
+        }
+        let variables = [body[0], body[1], body[2]].map(usize::from);
+        let permitted: Vec<[u8; 3]> = body[4..].chunks(3).map(|triple| [triple[0], triple[1], triple[2]]).collect();
+        let in_order = variables.is_sorted_by(|one, next| one < next) && variables[2] < n && last < Some(variables);
+        let counted = (1..=16).contains(&count) && permitted.is_sorted_by(|one, next| one < next);
+        if !in_order || !counted || !permitted.iter().all(|triple| (0..3).all(|x| problem.has(variables[x], triple[x].into()))) {
+            return Err((26, at));
+        }
+        last = Some(variables);
+        problem.triples.push(Triples { variables, permitted });
+    }
     if rest.mark()? != b"EN" {
         return Err((2, rest.at));
     }
@@ -150,6 +188,7 @@ pub fn reading(p: &Problem) -> Reading {
     let mut r = Reading {
         n: p.domains.len(),
         m: p.constraints.len(),
+        t: p.triples.len(),
         rules,
         rules_to_use: rules.unwrap_or(RuleSet::USUAL),
         universal: 0,
@@ -180,6 +219,23 @@ pub fn write(problem: &Problem) -> Vec<u8> {
             out.extend(row.to_le_bytes());
         }
     }
+    for t in &problem.triples {
+        out.extend(b"TT");
+        out.extend(body(t));
+    }
     out.extend(b"EN");
     out
+}
+
+/// The body of a three-way constraint's record: its variables, how many triples it permits, and those.
+pub fn body(t: &Triples) -> Vec<u8> {
+    let [i, j, k] = t.variables.map(|variable| variable as u8);
+    [&[i, j, k, t.permitted.len() as u8], t.permitted.as_flattened()].concat()
+}
+
+impl Problem {
+    /// How many variables and three-way constraints there are: what room is counted by.
+    pub fn all(&self) -> usize {
+        self.domains.len() + self.triples.len()
+    }
 }

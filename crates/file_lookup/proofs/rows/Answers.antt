@@ -1,12 +1,13 @@
 use mathlib.Core.Path.{◌≡◌, sym, ◌∙◌}
 use borrow.Author.Rules.{rules}
 use Rattle.std.specs.Prelude.{Ok, Some, None}
-use Rattle.file_lookup.specs.Lookup.{rows_of}
+use Rattle.file_lookup.specs.Lookup.{rows_at, rows_of}
 use Rattle.file_lookup.proofs.Lookup.{rows_of_lem}
 use Rattle.file_lookup.proofs.rows.Goals as goal
 
 pub returns-in-Ok-Some : goal.returns-in-Ok-Some
-returns-in-Ok-Some c = let q : c.args.found ≡ Ok (Some c.in-Ok-Some.p) = search rules in c.rows_at.ensures ∙ sym (rows_of_lem _ _ _ q)
+unfolding rows_at
+returns-in-Ok-Some c = let q : c.args.found ≡ Ok (Some c.in-Ok-Some.p) = search rules in c.part_at.ensures ∙ sym (rows_of_lem _ _ _ q)
 
 pub returns-in-Ok-None : goal.returns-in-Ok-None
 unfolding rows_of

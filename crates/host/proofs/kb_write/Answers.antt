@@ -8,6 +8,6 @@ pub returns : goal.returns
 returns c = let e = c.write-written.ensures in
     let s = c.set_handed.ensures in
     record {
-      value = c.from.ensures ∙ ap written_of (told-in_call _ _ c.map_err.ensures.cases ∙ e.result_value ∙ rw s (byte-told _ _ _ _ _ _ _ _));
-      buf_after = e.buf_after ∙ rw s (byte_left _ _ _ _ _ _ _ _);
+      value = c.from.ensures ∙ ap written_of (told-in_call _ _ c.map_err.ensures.cases ∙ e.result_value ∙ rw s (byte-told _ _ _ _ _ _ _ _ _));
+      buf_after = e.buf_after ∙ rw s (byte_left _ _ _ _ _ _ _ _ _);
     }

@@ -12,15 +12,15 @@ pub returns-in_err-arrays : goal.returns-in_err-arrays
 unfolding forward_told forward_left
 returns-in_err-arrays c =
     let q : c.from_residual.result ≡ Err (InFile c.in_err-arrays.field-0.0) = search rules in
-    let z = c.decode.ensures.refused _ c.in_err-arrays.was in
+    let z = c.decode_ordinary.ensures.refused _ c.in_err-arrays.was in
     record { result_value = ap told_check q ∙ sym (read_refused _ _ _ _ z); list_after = sym (read_refused _ _ _ _ z) }
 
 pub returns-in_err-forward_in : goal.returns-in_err-forward_in
 unfolding forward_told forward_left
 returns-in_err-forward_in c =
     let q : c.from_residual-in_err-forward_in.result ≡ Err (InCall c.in_err-forward_in.field-0.0) = search rules in
-    record { result_value = ap told_check q ∙ sym (ap (told_by check_values reason_told) c.in_err-forward_in.was) ∙ read_given c.decode.ensures c.in_ok-arrays.was _ _ (λ P h. (c.forward_in.ensures P h).0); list_after = read_given c.decode.ensures c.in_ok-arrays.was _ _ (λ P h. (c.forward_in.ensures P h).1) }
+    record { result_value = ap told_check q ∙ sym (ap (told_by check_values reason_told) c.in_err-forward_in.was) ∙ read_given c.decode_ordinary.ensures c.in_ok-arrays.was _ _ (λ P h. (c.forward_in.ensures P h).0); list_after = read_given c.decode_ordinary.ensures c.in_ok-arrays.was _ _ (λ P h. (c.forward_in.ensures P h).1) }
 
 pub returns : goal.returns
 unfolding forward_told forward_left
-returns c = record { result_value = sym (ap (told_by check_values reason_told) c.in_ok-forward_in.was) ∙ read_given c.decode.ensures c.in_ok-arrays.was _ _ (λ P h. (c.forward_in.ensures P h).0); list_after = read_given c.decode.ensures c.in_ok-arrays.was _ _ (λ P h. (c.forward_in.ensures P h).1) }
+returns c = record { result_value = sym (ap (told_by check_values reason_told) c.in_ok-forward_in.was) ∙ read_given c.decode_ordinary.ensures c.in_ok-arrays.was _ _ (λ P h. (c.forward_in.ensures P h).0); list_after = read_given c.decode_ordinary.ensures c.in_ok-arrays.was _ _ (λ P h. (c.forward_in.ensures P h).1) }

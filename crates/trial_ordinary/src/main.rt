@@ -1,0 +1,33 @@
+// Compares decoded arrays: those of a file with three-way constraints, and those of the file of its ordinary problem, decoded as any file of
+// constraints of two variables. stdin is cases/card07-ordinary.bin (cases/README.md). It rests on `ternary_decoder`, `file_decoder` and
+// `trial_vectors`.
+#![tactic(auto)]
+
+mod same;
+
+use file_decoder::decode;
+use same::state_alike;
+use std::io;
+use ternary_decoder::decode_ordinary;
+use trial_vectors::{Stored, Tally, all_cases, byte, input, report};
+
+// Whether the first file's arrays are the second's, and its own variables are to play.
+fn decodes_alike(f: &[u8], ordinary: &[u8]) -> bool {
+    let a = decode_ordinary(f).ok();
+    let b = decode(ordinary).ok();
+    match (a, b) {
+        (Some(x), Some(y)) => x.own == byte(f, 2) && state_alike(&x, &y),
+        (_, _) => false,
+    }
+}
+
+fn compared(s: &mut Stored, t: Tally) -> Tally {
+    let f = s.file();
+    let ordinary = s.file();
+    t.counted(decodes_alike(f, ordinary))
+}
+
+fn main(rt: HostRuntime) -> io::Result<()> {
+    let s = input(&rt);
+    report(&rt, b"ordinary problems ", all_cases(&s, compared))
+}
