@@ -135,6 +135,16 @@ module _ (f : List ℕ) (room : ℕ) where
 
 -- ---- the text judged
 
+-- The ordinary problem has 1 to 32 variables.
+module _ (f : List ℕ) (fine : verdict_of f ≡ Fine) where
+  pub ordinary-some : 0 < (ordinary_of f fine).n
+  unfolding ordinary_of expanded ternary_of problem_of
+  ordinary-some = omega (arith, variables-some f fine)
+
+  pub ordinary_most : (ordinary_of f fine).n ≤ 32
+  unfolding ordinary_of expanded ternary_of problem_of
+  ordinary_most = variables_and_ternaries f fine
+
 -- The text of a problem of 1 to 32 variables is one that the judge takes, and its verdict is the game's.
 module _ (P : Problem) (some : 0 < P.n) (many : P.n ≤ 32) where
   judgeable : Judgeable (text_for P)
@@ -155,14 +165,6 @@ module _ (P : Problem) (some : 0 < P.n) (many : P.n ≤ 32) where
 module _ (f buf buf' : List ℕ) (k : ℕ) (w : Wrote f (length buf) k) (left : buf' ≡ formula_left f buf) where
   abbrev text : List ℕ
   text = text_for (ordinary_of f w.fine)
-
-  size-some : 0 < (ordinary_of f w.fine).n
-  unfolding ordinary_of expanded ternary_of problem_of
-  size-some = omega (arith, variables-some f w.fine)
-
-  size_most : (ordinary_of f w.fine).n ≤ 32
-  unfolding ordinary_of expanded ternary_of problem_of
-  size_most = variables_and_ternaries f w.fine
 
   fits : length text ≤ length buf
   unfolding formula_test text_test
@@ -185,7 +187,7 @@ module _ (f buf buf' : List ℕ) (k : ℕ) (w : Wrote f (length buf) k) (left : 
       → replied (cond r 1 0 ∷ k ∷ []) ≡ judge_formula_told f (length buf)
   unfolding judge_formula_reply
   judge_told_lem r h =
-      let e = text-judged (ordinary_of f w.fine) size-some size_most (take k buf') front r h in
+      let e = text-judged (ordinary_of f w.fine) (ordinary-some f w.fine) (ordinary_most f w.fine) (take k buf') front r h in
       reply_told (formula_test (ordinary_of f w.fine) (length buf)) (cond (verdict (ordinary_of f w.fine) []) 1 0 ∷ length text ∷ []) refl w.test
       (ap (λ (b : Bool). cond b 1 0 ∷ k ∷ []) e ∙ ap (λ (j : ℕ). cond (verdict (ordinary_of f w.fine) []) 1 0 ∷ j ∷ []) w.size)
       ∙ sym (judge_fine f (length buf) w.fine)

@@ -20,10 +20,9 @@ use Rattle.game.specs.Problem.{Problem}
 use Rattle.game.specs.Lists.{domains}
 use Rattle.game.specs.Winning.{verdict}
 use Rattle.game.specs.Ternary.{ternary_verdict}
-use Rattle.theory.proofs.Standing.{legal_none}
 use Rattle.ternary_theory.specs.Expanded.{compatible_with, domain_own, expanded}
 use Rattle.ternary_theory.proofs.Parts.{own_pair, own_joined}
-use Rattle.ternary_theory.proofs.Expansion.{expanded_verdict}
+use Rattle.ternary_theory.proofs.Expansion.{expanded_won}
 use Rattle.ternary_theory.proofs.NoTernary.{ternary_none}
 use Rattle.theory.proofs.Lists.{get_d_list_of}
 use Rattle.buffer.specs.Stored.{stored}
@@ -53,7 +52,7 @@ won_by f fine = read_fine f _ _ fine
 
 won_ordinary : (f : List ℕ) (fine : verdict_of f ≡ Fine) → file_won f ≡ verdict (ordinary_of f fine) []
 unfolding ordinary_of
-won_ordinary f fine = let J = ternary_of f fine in won_by f fine ∙ sym (expanded_verdict J [] (legal_none J.binary))
+won_ordinary f fine = won_by f fine ∙ sym (expanded_won (ternary_of f fine))
 
 -- Without three-way constraints the ordinary problem has the same size and ties as the file's.
 module _ (f : List ℕ) (fine : verdict_of f ≡ Fine) (none : t_of f ≡ 0) where

@@ -23,7 +23,7 @@ use Rattle.theory.proofs.Moves.{Turn, put_at, put_off, satisfied_out, satisfied_
 use Rattle.theory.proofs.Transfer.{In, Inside, inside_put, from, from_end, next, win, outcome}
 use Rattle.theory.proofs.Positions.{placed-above}
 use Rattle.theory.proofs.TurnLists.{legal_out, legal_in}
-use Rattle.theory.proofs.Standing.{legal_snoc, position-placed, verdict-placed}
+use Rattle.theory.proofs.Standing.{legal_none, legal_snoc, position-placed, verdict-placed}
 use Rattle.ternary_theory.specs.Expanded.{hidden, agrees, compatible_with, universal_with, domain_with, expanded, domain_own, domain_hidden}
 use Rattle.ternary_theory.proofs.Parts.{own_pair, hidden_pair, both_hidden, own_side, hidden_side, agrees_one, agrees_two, agrees_three}
 
@@ -279,6 +279,9 @@ module _ (J : TernaryProblem) where
       ∙ wide_direct G F (placed_own p) (placed_hidden p (legal_out binary p t).0) (λ j. 0)
       ∙ sym (from_start universal (meets_all J) G n)
       ∙ rw (position-placed binary p t) refl
+
+  pub expanded_won : verdict (expanded J) [] ≡ ternary_verdict J []
+  expanded_won = expanded_verdict [] (legal_none binary)
 
   -- So are the marks of the next of them.
   pub expanded_winning : (p : List ℕ) → T (legal binary p) → length p < n → winning_values (expanded J) p ≡ ternary_winning J p
