@@ -137,6 +137,17 @@ fn generated_files() {
     compared.end(300, groups);
 }
 
+/// The accepted examples, of whose formulas and groups the gate has check numbers: texts and files are those of the plain reading.
+#[test]
+fn examples() {
+    let mut compared = Compared::new("ordinary problems of the examples");
+    let mut random = Random(0x0d1a5a);
+    let problems = stored::examples().into_iter().filter_map(|(bytes, _)| plain::read(&bytes).ok().map(|p| (bytes, p)));
+    let files: Vec<_> = problems.map(|(bytes, p)| (bytes, plain::write(&plain::ordinary(&p)))).collect();
+    files.iter().for_each(|(bytes, second)| compared.compare(bytes, second, &mut random));
+    compared.end(8, count_groups(&files));
+}
+
 /// The judge of formulas says of a problem with three-way constraints what the direct game comes to, and so does the plain evaluator: stored
 /// files and generated ones whose formulas have few booleans.
 #[test]

@@ -73,17 +73,15 @@ fn generated_files() {
     compare_all("reports: generated files", files, 975);
 }
 
-/// The examples, whose texts are stored beside them.
+/// The examples, whose texts are stored beside them: those of the plain solver.
 #[test]
 fn examples() {
     let mut tally = Tally::new("reports: examples");
-    let folder = format!("{}/../examples", env!("CARGO_MANIFEST_DIR"));
-    for entry in std::fs::read_dir(&folder).expect("the examples") {
-        let path = entry.expect("an example").path();
-        if path.extension().is_some_and(|extension| extension == "txt") {
-            let bytes = std::fs::read(path.with_extension("job")).expect("the file of an example");
-            compare(&mut tally, &bytes, &std::fs::read_to_string(path).expect("the text of an example"));
-        }
+    let mut stored = Tally::new("reports: stored texts of the examples by the plain solver");
+    for (bytes, text) in stored::examples() {
+        compare(&mut tally, &bytes, &text);
+        stored.compare(plain::text(&bytes, u64::MAX), Some(text));
     }
     tally.end(6 * 10);
+    stored.end(10);
 }

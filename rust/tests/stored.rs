@@ -292,3 +292,16 @@ fn search(c: &mut Cases, shown: impl Fn(&mut Cases, usize) -> Vec<u16>) -> Searc
     let n = n_of(&file);
     Search { rules, position, flag: c.flag(), shown: filled(&shown(c, n)), file }
 }
+
+/// The examples, each with the text that is stored beside it.
+pub fn examples() -> Vec<(Vec<u8>, String)> {
+    let folder = format!("{}/../examples", env!("CARGO_MANIFEST_DIR"));
+    let paths = std::fs::read_dir(&folder).expect("the examples").map(|entry| entry.expect("an example").path());
+    let texts = paths.filter(|path| path.extension().is_some_and(|extension| extension == "txt"));
+    texts
+        .map(|path| {
+            let bytes = std::fs::read(path.with_extension("job")).expect("the file of an example");
+            (bytes, std::fs::read_to_string(path).expect("the text of an example"))
+        })
+        .collect()
+}

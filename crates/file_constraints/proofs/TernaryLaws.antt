@@ -25,7 +25,7 @@ ternaries_stand f fine =
     record {
       few = variables_and_ternaries f fine;
       near = λ r h. ternaries_near f fine r (omega arith);
-      order = λ r h. let b = (a.ternary r h).fits in (b.first, b.second, b.below);
+      order = λ r h. let b = (a.ternary r h).fits.scope in (b.first, b.second, b.below);
       counts = λ r h. let b = (a.ternary r h).fits in (b.some, b.most);
     }
 
@@ -39,18 +39,18 @@ pub behind_constraints : (f : List ℕ) (q m : ℕ) → q ≡ constraints_at f �
 unfolding after_constraints
 behind_constraints f q m x y = rw (x, y) refl
 
-pub start_of : (f : List ℕ) (q : ℕ) → ternary_at f q 0 ≡ q
+pub first_at : (f : List ℕ) (q : ℕ) → ternary_at f q 0 ≡ q
 unfolding ternary_at
-start_of f q = refl
+first_at f q = refl
 
 pub behind_ternary : (f : List ℕ) (q r p next : ℕ) → p ≡ ternary_at f q r → next ≡ p + 2 + body_at f p → next ≡ ternary_at f q (suc r)
 unfolding ternary_at
 behind_ternary f q r p next x y = rw (y, x) refl
 
 -- Each is three constraints of the ordinary problem, whose arrays have room for 496.
-pub numbers_most : (f : List ℕ) → verdict_of f ≡ Fine → m_of f + 3 * t_of f ≤ 496
+pub entered_most : (f : List ℕ) → verdict_of f ≡ Fine → m_of f + 3 * t_of f ≤ 496
 unfolding each
-numbers_most f fine =
+entered_most f fine =
     let few = variables_and_ternaries f fine in
     let n = n_of f in
     let pairs = (accepted f fine).head.counts.pairs in

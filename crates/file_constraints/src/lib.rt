@@ -1,6 +1,6 @@
 // The constraints of a file one by one, of two variables by their numbers and of three by their places: what the solver reads of an accepted file
-// beside the reading's reply. It
-// rests on `file_layout`, and its laws on what reader and look-up tell. Every function here is for `file_decoder`.
+// beside the reading's reply. It rests on `file_layout`, and its laws on what reader and look-up tell. Constraints of two are for `file_decoder` and
+// `ternary_decoder`, those of three for the latter.
 #![tactic(auto)]
 
 ghost use Rattle.std.specs.Prelude.{◌≡◌};

@@ -1,5 +1,5 @@
--- The problem of an accepted file: its size and its domains are those of the reading.
-use Prim.Native.Nat.{ℕ, ◌<◌}
+-- The problem of an accepted file: its size and its domains are those of the reading; with its hidden variables it has 1 to 32 variables.
+use Prim.Native.Nat.{ℕ, ◌+◌, ◌≤◌, ◌<◌}
 use mathlib.Core.Path.{◌≡◌, refl, sym, ◌∙◌}
 use mathlib.Core.List.{List}
 use lib.ListN.{get_or, take}
@@ -8,14 +8,27 @@ use native.Mathlib.Omega.{arith}
 use Rattle.game.specs.Lists.{list_of}
 use Rattle.theory.proofs.Lists.{length-list_of, get_d_list_of}
 use Rattle.refusal.specs.Chain.{Fine}
+use Rattle.ternary_theory.specs.Expanded.{expanded}
 use Rattle.file_reader.specs.Reading.{n_of, domain_of, domains_of, verdict_of}
-use Rattle.file_reader.proofs.Accepted.{variables_most, domains-length, domain_read}
-use Rattle.file_decoder.specs.FileProblem.{problem_of}
+use Rattle.file_reader.proofs.Accepted.{variables-some, variables_most, variables_and_ternaries, domains-length, domain_read}
+use Rattle.file_decoder.specs.FileProblem.{problem_of, ternary_of, ordinary_of}
 
 module _ (f : List ℕ) (fine : verdict_of f ≡ Fine) where
   pub problem_size : (problem_of f fine).n ≡ n_of f
   unfolding problem_of
   problem_size = refl
+
+  pub ternary_most : (ternary_of f fine).binary.n + (ternary_of f fine).ternary ≤ 32
+  unfolding ternary_of problem_of
+  ternary_most = variables_and_ternaries f fine
+
+  pub ordinary-some : 0 < (ordinary_of f fine).n
+  unfolding ordinary_of expanded ternary_of problem_of
+  ordinary-some = omega (arith, variables-some f fine)
+
+  pub ordinary_most : (ordinary_of f fine).n ≤ 32
+  unfolding ordinary_of expanded
+  ordinary_most = ternary_most
 
   pub problem_domains : ((k : ℕ) → get_or f k 0 < 256) → (problem_of f fine).domain ≡ take (n_of f) (domains_of f)
   unfolding problem_of

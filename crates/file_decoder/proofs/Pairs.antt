@@ -5,13 +5,14 @@ use mathlib.Core.Bool.{Bool, ◌&&◌, ◌||◌, or_assoc, or_comm}
 use mathlib.Core.List.{List}
 use lib.Bits.{bit_or}
 use lib.Dec.{eqb}
-use lib.ListN.{length, get_or, set, length-set, get_or-eq_default}
+use lib.ListN.{length, get_or, set, length-set}
 use lib.Seq.{get_or-set_same, get_or-set_other}
 use native.Mathlib.Omega.{arith}
 use borrow.Author.Tests.{eq-eqb, ne_eqb}
 use Rattle.mask.specs.Mask.{bit}
-use Rattle.mask.proofs.Logic.{by_eq, by_lt}
+use Rattle.mask.proofs.Logic.{by_eq}
 use Rattle.mask.proofs.Bits.{bit-bit_or, bit_single}
+use Rattle.mask.proofs.Words.{set_most}
 use Rattle.file_decoder.specs.Tables.{put_to, added, linked, numbered, blocks}
 use Rattle.file_decoder.proofs.Runs.{length-put, put_in, put-before}
 
@@ -38,15 +39,6 @@ module _ (l : List ℕ) (t : ℕ) (row column : ℕ → ℕ) where
 
 -- ---- index
 
--- A word stored that is at most w, in a list of such words.
-set_most : (l : List ℕ) (k v w x : ℕ) → v ≤ w → get_or l x 0 ≤ w → get_or (set l k v) x 0 ≤ w
-set_most l k v w x h g =
-    by_eq x k
-    (λ e. by_lt k (length l)
-    (λ s. rw (e, get_or-set_same l k v 0 s) h)
-    (λ s. rw (get_or-eq_default (set l k v) 0 {n = x} (omega (arith, length-set l k v))) (omega arith)))
-    (λ d. rw (get_or-set_other l k x v 0 d) g)
-
 -- The two words of a pair that is given constraint t, and the others.
 module _ (l : List ℕ) (i j t : ℕ) where
   pub length-numbered : length (numbered l i j t) ≡ length l
@@ -71,7 +63,7 @@ module _ (l : List ℕ) (i j t : ℕ) where
 
   pub numbered_most : (w x : ℕ) → 2 * t + 2 ≤ w → get_or l x 0 ≤ w → get_or (numbered l i j t) x 0 ≤ w
   unfolding numbered
-  numbered_most w x h g = set_most (set l (32 * i + j) (2 * t + 1)) (32 * j + i) (2 * t + 2) w x h (set_most l (32 * i + j) (2 * t + 1) w x (omega arith) g)
+  numbered_most w x h g = set_most (set l (32 * i + j) (2 * t + 1)) (32 * j + i) x (2 * t + 2) w h (set_most l (32 * i + j) x (2 * t + 1) w (omega arith) g)
 
 -- ---- neighbours
 

@@ -1,6 +1,7 @@
 // An accepted file decoded once: the problem that it states, the arrays that the solver goes by instead of the file's bytes, and what
 // an entry is given of both. It rests on `file_reader`, `file_constraints` and `solver_arrays`. Each constraint is entered at the place of
-// its number, in both directions, so decoding is linear in the file. `decode` is for the open values, the rest for `ternary_decoder`.
+// its number, in both directions, so decoding is linear in the file. `decode` leaves constraints of three variables out: the open values
+// keep to those of two. `ternary_decoder` goes on from its parts.
 #![tactic(auto)]
 
 ghost use Rattle.std.specs.Prelude.{◌<◌, ◌≤◌};

@@ -98,12 +98,16 @@ fits_eq domain domain' n last i j row row' ed er =
     let z = each_eq 16 (λ a. true) (λ a. row_fits (domain i) (domain j) a (row a)) (λ a. row_fits (domain' i) (domain' j) a (row' a)) (λ a l. rw (x, y, er a l)) in
     ap (λ (b : Bool). need (ltb last (pair_of i j)) Order then need b Stray) z)
 
--- One three-way constraint's numbers.
-pub record TernaryFits (domain : ℕ → ℕ) (n last : ℕ) (x : ℕ → ℕ) : Type 0 where
+-- One three-way constraint's variables.
+pub record ScopeFits (n last : ℕ) (x : ℕ → ℕ) : Type 0 where
   pub first : x 0 < x 1
   pub second : x 1 < x 2
   pub below : x 2 < n
   pub above : last < scope_of (x 0) (x 1) (x 2)
+
+-- All its numbers.
+pub record TernaryFits (domain : ℕ → ℕ) (n last : ℕ) (x : ℕ → ℕ) : Type 0 where
+  pub scope : ScopeFits n last x
   pub some : 1 ≤ x 3
   pub most : x 3 ≤ 16
   pub one : (q : ℕ) → q < x 3 → T (bit (domain (x 0)) (x (3 * q + 4)))
@@ -111,13 +115,6 @@ pub record TernaryFits (domain : ℕ → ℕ) (n last : ℕ) (x : ℕ → ℕ) :
   pub three : (q : ℕ) → q < x 3 → T (bit (domain (x 2)) (x (3 * q + 6)))
   pub low : (q : ℕ) → q < x 3 → (x (3 * q + 4) < 16) × (x (3 * q + 5) < 16) × (x (3 * q + 6) < 16)
   pub ascends : (q : ℕ) → suc q < x 3 → triple_in x q < triple_in x (suc q)
-
--- Its variables.
-pub record ScopeFits (n last : ℕ) (x : ℕ → ℕ) : Type 0 where
-  pub first : x 0 < x 1
-  pub second : x 1 < x 2
-  pub below : x 2 < n
-  pub above : last < scope_of (x 0) (x 1) (x 2)
 
 scope_out : (n last : ℕ) (x : ℕ → ℕ) → scope_fits n last x ≡ true → ScopeFits n last x
 unfolding scope_fits
@@ -160,7 +157,6 @@ pub ternary_out : (domain : ℕ → ℕ) (n last : ℕ) (x : ℕ → ℕ) → te
 unfolding ternary_fits count_fits triples_fit above_last
 ternary_out domain n last x e =
     let a = both_true _ _ e in
-    let s = scope_out n last x a.0 in
     let b = both_true _ _ a.1 in
     let c = both_true _ _ b.0 in
     let t : (q : ℕ) → q < x 3 → T (values_in domain x q && above_last x q) =
@@ -170,10 +166,7 @@ ternary_out domain n last x e =
     let two = λ (q : ℕ) (h : q < x 3). value_out _ _ (v q h).1 in
     let three = λ (q : ℕ) (h : q < x 3). value_out _ _ (v q h).2 in
     record {
-      first = s.first;
-      second = s.second;
-      below = s.below;
-      above = s.above;
+      scope = scope_out n last x a.0;
       some = leb-true _ _ c.0;
       most = leb-true _ _ c.1;
       one = λ q h. (one q h).1;
@@ -186,7 +179,8 @@ ternary_out domain n last x e =
 pub ternary_in : (domain : ℕ → ℕ) (n last : ℕ) (x : ℕ → ℕ) → TernaryFits domain n last x → ternary_fits domain n last x ≡ true
 unfolding ternary_fits scope_fits count_fits triples_fit values_in above_last
 ternary_in domain n last x t =
-    both_ok _ _ (both_ok _ _ (lt-ltb _ _ t.first) (both_ok _ _ (order_in _ _ _ t.second t.below) (lt-ltb _ _ t.above)))
+    let s = t.scope in
+    both_ok _ _ (both_ok _ _ (lt-ltb _ _ s.first) (both_ok _ _ (order_in _ _ _ s.second s.below) (lt-ltb _ _ s.above)))
     (both_ok _ _ (both_ok _ _ (le-leb _ _ t.some) (le-leb _ _ t.most))
     (holds (each_in (x 3) (λ q. true) (λ q. values_in domain x q && above_last x q)
     (λ q h s. let v = values_fit t q h in and_in _ _ (and_in _ _ v.0 (and_in _ _ v.1 v.2)) (above q h)))))
@@ -203,10 +197,10 @@ next_above x (suc q) = triple_in x q + 1
 module _ (domain : ℕ → ℕ) (n last : ℕ) (x : ℕ → ℕ) where
   pub not_ordered : (ltb (x 0) (x 1) && in_order (x 1) (x 2) n) ≡ false → ternary_fits domain n last x ≡ false
   not_ordered e =
-      fails (λ t. let f = ternary_out domain n last x (holds t) in clash e (true_holds (both_ok _ _ (lt-ltb _ _ f.first) (order_in _ _ _ f.second f.below))))
+      fails (λ t. let s = (ternary_out domain n last x (holds t)).scope in clash e (true_holds (both_ok _ _ (lt-ltb _ _ s.first) (order_in _ _ _ s.second s.below))))
 
   pub not_above : scope_of (x 0) (x 1) (x 2) ≤ last → ternary_fits domain n last x ≡ false
-  not_above h = fails (λ t. let f = (ternary_out domain n last x (holds t)).above in omega arith)
+  not_above h = fails (λ t. let s = (ternary_out domain n last x (holds t)).scope in omega (arith, s.above))
 
   pub not_counted : count_fits (x 3) ≡ false → ternary_fits domain n last x ≡ false
   unfolding count_fits

@@ -5,7 +5,7 @@ use mathlib.Core.Path.{◌≡◌, refl, sym, ap, ◌∙◌}
 use mathlib.Core.Bool.{Bool, true, false, cond}
 use mathlib.Core.List.{List, [], ◌∷◌}
 use mathlib.Core.Logic.{⊎_elim, ◌⊎◌, inl, inr}
-use lib.ListN.{length, take, drop}
+use lib.ListN.{length}
 use lib.Dec.{eqb}
 use native.Mathlib.Omega.{arith}
 use native.Mathlib.Nat.{eq-or-lt_of_le, le_of_suc-le-suc}
@@ -21,6 +21,7 @@ use Rattle.file_layout.specs.Numbers.{in_order, pair_of}
 use Rattle.file_layout.proofs.NumberLaws.{order_out, order_in}
 use Rattle.file_records.specs.Records.{last_pair, verdict_of}
 use Rattle.file_reader.proofs.Accepted.{accepted}
+use Rattle.file_lookup.specs.Part.{part}
 use Rattle.file_lookup.proofs.PartLaws.{part_there}
 use Rattle.file_lookup.specs.Lookup.{told, place_to, pair_place, look_for, look_up, rows_at, rows_of}
 
@@ -196,6 +197,6 @@ told_rows (Err (InFile d)) p e = cc
 told_rows (Err (InCall d)) p e = cc
 
 -- An answer of the look-up that has rows shows the 32 bytes at their place.
-pub found_rows : (f : List ℕ) (i j p : ℕ) (r : Result (Option ℕ) Refusal) → told r ≡ look_up f i j → look_up f i j ≡ replied (p ∷ []) → rows_of r f ≡ take 32 (drop p f)
+pub found_rows : (f : List ℕ) (i j p : ℕ) (r : Result (Option ℕ) Refusal) → told r ≡ look_up f i j → look_up f i j ≡ replied (p ∷ []) → rows_of r f ≡ part f p 32
 unfolding rows_at
 found_rows f i j p r e q = rows_of_lem r f p (told_rows r p (e ∙ q)) ∙ part_there f p 32 (found_within f i j p q)

@@ -4,7 +4,7 @@ use Prim.Native.Nat.{ℕ, zero, suc, ◌+◌, ◌-◌, ◌≤◌, ◌<◌}
 use mathlib.Core.Path.{◌≡◌, refl, sym, ap, ap₂, ◌∙◌}
 use mathlib.Core.Bool.{Bool, true, false, cond}
 use mathlib.Core.List.{List, [], ◌∷◌, ◌++◌, append-nil}
-use lib.ListN.{length, get_or, take, drop}
+use lib.ListN.{length, get_or}
 use native.Mathlib.Omega.{arith}
 use borrow.Author.Tests.{lt-ltb, le-ltb, ltb-true, ltb-false}
 use Rattle.std.specs.Prelude.{Result, Ok, Err, Option, None, Some}
@@ -18,7 +18,7 @@ use Rattle.file_layout.proofs.LayoutLaws.{ternary_ascends}
 use Rattle.file_records.specs.Records.{verdict_of}
 use Rattle.file_reader.proofs.Accepted.{accepted, accepted_end, variables_and_ternaries}
 use Rattle.file_lookup.specs.declared.ternary.Body.{Body}
-use Rattle.file_lookup.specs.Part.{part_at}
+use Rattle.file_lookup.specs.Part.{part, part_at}
 use Rattle.file_lookup.specs.Ternary.{told_body, body_numbers, body_place, body_record, body_from, look_ternary, look_up_ternary, body_of, showing_body, bodies_to, ternaries_shown}
 use Rattle.file_lookup.proofs.PartLaws.{part_there, length_part, part_byte}
 
@@ -144,7 +144,7 @@ told_bodies (Err d) p k e = cc
 
 -- An answer of the look-up that has a body shows the bytes at its place.
 pub found_body : (f : List ℕ) (q p k : ℕ) (r : Result (Option Body) Fault) → told_body r ≡ look_up_ternary f q →
-    look_up_ternary f q ≡ replied (p ∷ k ∷ []) → body_of r f ≡ take k (drop p f)
+    look_up_ternary f q ≡ replied (p ∷ k ∷ []) → body_of r f ≡ part f p k
 found_body f q p k r e h =
     let s = body_found f q p k h in
     body_of_lem r f _ (told_bodies r p k (e ∙ h)) ∙ part_there f p k (omega (arith, body_within f s.fine q s.less, s.place, s.size))

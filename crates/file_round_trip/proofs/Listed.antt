@@ -11,7 +11,9 @@ use Rattle.buffer.proofs.StoredLaws.{InRow, length-joined}
 use Rattle.file_bytes.specs.Bytes.{from, size_in, start_in, count_in}
 use Rattle.file_bytes.proofs.WalkLaws.{size_least, start_first, start_next, one_counted, all_counted, stands}
 use Rattle.file_round_trip.proofs.Held.{StandsAt, whole, joined_in}
-use Rattle.file_round_trip.proofs.Parts.{part, part_all, length-part, joined-part}
+use Rattle.file_lookup.specs.Part.{part}
+use Rattle.file_lookup.proofs.PartLaws.{length-part}
+use Rattle.file_round_trip.proofs.Parts.{part_all, joined-part}
 
 -- Each of the first t lists has as many numbers as its fourth number says.
 module _ (g : ℕ → List ℕ) (t : ℕ) (sized : (q : ℕ) → q < t → length (g q) ≡ 4 + 3 * get_or (g q) 3 0) where

@@ -3,8 +3,8 @@ use Prim.Native.Nat.{ℕ, zero, suc, ◌+◌, ◌*◌, ◌%◌, ◌≤◌, ◌<�
 use mathlib.Core.Path.{◌≡◌, refl, sym, ap, ◌∙◌}
 use mathlib.Core.Bool.{Bool, true, false, cond, ◌||◌, or-false}
 use mathlib.Core.List.{List, [], ◌∷◌, ◌++◌}
-use lib.ListN.{length, get_or, take, drop, length-append, length-take, length-drop}
-use lib.Seq.{drop-cons, take-add, drop-drop, take_all, ext_get_or, get_or-take, get_or-drop}
+use lib.ListN.{length, get_or, take, drop, length-append}
+use lib.Seq.{drop-cons, take-add, drop-drop, take_all, ext_get_or}
 use native.Mathlib.Nat.{zero-add}
 use native.Mathlib.Numerals.{add-one}
 use native.Mathlib.Omega.{arith}
@@ -13,15 +13,13 @@ use Rattle.file_layout.specs.Layout.{byte, word, marked, QP, RS, VE, VA, CT, TT,
 use Rattle.file_layout.proofs.LayoutLaws.{mark_out, variables-before, end_behind}
 use Rattle.file_records.proofs.RecordLaws.{Variable}
 use Rattle.file_reader.proofs.Accepted.{Accepted}
+use Rattle.file_lookup.specs.Part.{part}
+use Rattle.file_lookup.proofs.PartLaws.{length-part, part-byte}
 use Rattle.buffer.specs.Stored.{joined}
 use Rattle.file_bytes.specs.Bytes.{word_bytes, mark_bytes, variable_mark, variable_bytes, variables_bytes, pair_bytes, rows_bytes, constraint_bytes, constraints_bytes, head_bytes, qp_bytes, rs_bytes, Handed, domain_in, one_in, two_in, row_handed, ternary_bytes, count_in, ternary_in, bytes_of}
 use Rattle.mask.specs.Mask.{bit}
 use Rattle.buffer.proofs.StoredLaws.{InRow, row_front, length-joined, one_each, one_at as byte_of}
 use Rattle.file_bytes.proofs.RecordLaws.{length-word, length_variable, length_constraint, variables-row, rows_row, constraints-row}
-
--- The k elements of f from p on.
-unfoldable pub part : List ℕ → ℕ → ℕ → List ℕ
-part f p k = take k (drop p f)
 
 -- A part and the part behind it.
 part_more : (f : List ℕ) (p a b : ℕ) → part f p a ++ part f (p + a) b ≡ part f p (a + b)
@@ -49,17 +47,12 @@ part-two f p h =
 part_behind : (f : List ℕ) (k d r : ℕ) → k + d ≡ r → part f 0 k ++ part f k d ≡ part f 0 r
 part_behind f k d r s = ap (λ (i : ℕ). part f 0 k ++ part f i d) (sym (zero-add k)) ∙ part_more f 0 k d ∙ ap (part f 0) s
 
--- How long a part is, and what stands in it.
-pub length-part : (f : List ℕ) (p k : ℕ) → p + k ≤ length f → length (part f p k) ≡ k
-unfolding part
-length-part f p k h = length-take k (drop p f) ∙ omega (arith, length-drop p f)
-
+-- A list with a part's bytes is the part.
 pub part_is : (f xs : List ℕ) (p : ℕ) → p + length xs ≤ length f → ((k : ℕ) → k < length xs → get_or xs k 0 ≡ get_or f (p + k) 0) →
     xs ≡ part f p (length xs)
-unfolding part
 part_is f xs p h v =
     ext_get_or 0 xs (part f p (length xs)) (sym (length-part f p (length xs) h))
-    (λ k l. v k l ∙ sym (get_or-take (length xs) (drop p f) k 0 l ∙ get_or-drop p f k 0))
+    (λ k l. v k l ∙ sym (part-byte f p (length xs) k l))
 
 -- A part that is long enough is all of f.
 pub part_all : (f : List ℕ) (k : ℕ) → length f ≤ k → part f 0 k ≡ f

@@ -34,7 +34,8 @@ use Rattle.file_writer.specs.Writing.{write_told, write_buffer}
 use Rattle.file_writer.proofs.Writable.{Writable, writable, write_fine, told_fine, buffer_fine}
 use Rattle.file_round_trip.specs.Writes.{Writes}
 use Rattle.file_round_trip.specs.Shown.{shown_with, head_in, Shown}
-use Rattle.file_round_trip.proofs.Parts.{part, part_is, variable_part, constraint_part, ternary_part, bytes_part}
+use Rattle.file_lookup.specs.Part.{part}
+use Rattle.file_round_trip.proofs.Parts.{part_is, variable_part, constraint_part, ternary_part, bytes_part}
 use Rattle.file_round_trip.proofs.Listed.{size_is, number_there, count_is, whole_is, record_of, records_joined}
 use Rattle.file_round_trip.proofs.Written.{fits_same, ternary_fits_same, file_fine, file_n, file_m, file_t, file-rules, file-domain, file-universal, file-one, file-two, file-row, file-body, file-number}
 

@@ -84,9 +84,9 @@ module _ (domain : ℕ → ℕ) (n last : ℕ) (x : ℕ → ℕ) (t : TernaryFit
   triple_low q (suc (suc (suc r))) h l = absurd (omega arith)
 
   pub number_low : (a : ℕ) → a < 4 + 3 * x 3 → x a < 256
-  number_low zero h = omega (arith, t.first, t.second, t.below)
-  number_low (suc zero) h = omega (arith, t.second, t.below)
-  number_low (suc (suc zero)) h = omega (arith, t.below)
+  number_low zero h = omega (arith, t.scope.first, t.scope.second, t.scope.below)
+  number_low (suc zero) h = omega (arith, t.scope.second, t.scope.below)
+  number_low (suc (suc zero)) h = omega (arith, t.scope.below)
   number_low (suc (suc (suc zero))) h = omega (arith, t.most)
   number_low (suc (suc (suc (suc a)))) h =
       at_low x (3 * (a / 3) + 4 + a % 3) _ (omega arith) (triple_low (a / 3) (a % 3) (omega arith) (omega arith))

@@ -25,10 +25,9 @@ use Rattle.buffer.proofs.StoredLaws.{stored-start}
 use Rattle.solver_arrays.specs.declared.arrays.Arrays.{Arrays}
 use Rattle.solver_arrays.specs.Arrays.{Poses}
 use Rattle.file_reader.specs.Reading.{verdict_of}
-use Rattle.file_reader.proofs.Accepted.{variables-some, variables_and_ternaries}
-use Rattle.ternary_theory.specs.Expanded.{expanded}
-use Rattle.file_decoder.specs.FileProblem.{problem_of, ternary_of, ordinary_of}
+use Rattle.file_decoder.specs.FileProblem.{ordinary_of}
 use Rattle.ternary_decoder.specs.Decoded.{OrdinaryGiven}
+use Rattle.file_decoder.proofs.FileLaws.{ordinary-some, ordinary_most}
 use Rattle.file_decoder.proofs.ReadLaws.{read_fine, read_refused}
 use Rattle.formula.specs.Formula.{judge_formula}
 use Rattle.formula.specs.Encoding.{formula_of}
@@ -134,16 +133,6 @@ module _ (f : List ℕ) (room : ℕ) where
       (λ fine. let r = fine_told _ _ _ (h ∙ told_fine fine) in record { fine = fine; size = (let s = r.1 in cc); test = r.0 })
 
 -- ---- the text judged
-
--- The ordinary problem has 1 to 32 variables.
-module _ (f : List ℕ) (fine : verdict_of f ≡ Fine) where
-  pub ordinary-some : 0 < (ordinary_of f fine).n
-  unfolding ordinary_of expanded ternary_of problem_of
-  ordinary-some = omega (arith, variables-some f fine)
-
-  pub ordinary_most : (ordinary_of f fine).n ≤ 32
-  unfolding ordinary_of expanded ternary_of problem_of
-  ordinary_most = variables_and_ternaries f fine
 
 -- The text of a problem of 1 to 32 variables is one that the judge takes, and its verdict is the game's.
 module _ (P : Problem) (some : 0 < P.n) (many : P.n ≤ 32) where

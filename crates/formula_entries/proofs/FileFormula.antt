@@ -9,10 +9,11 @@ use Rattle.refusal.specs.Chain.{Fine}
 use Rattle.refusal.specs.Told.{replied}
 use Rattle.refusal.proofs.RepliedLaws.{reply_told}
 use Rattle.game.specs.Problem.{Problem}
-use Rattle.game.specs.Ternary.{TernaryProblem, ternary_verdict}
+use Rattle.game.specs.Ternary.{ternary_verdict}
 use Rattle.ternary_theory.proofs.Expansion.{expanded_won}
 use Rattle.file_reader.specs.Reading.{verdict_of}
 use Rattle.file_decoder.specs.FileProblem.{ternary_of, ordinary_of}
+use Rattle.file_decoder.proofs.FileLaws.{ordinary-some, ordinary_most}
 use Rattle.file_decoder.proofs.ReadLaws.{read_fine}
 use Rattle.formula.specs.Formula.{judge_formula}
 use Rattle.formula.specs.Encoding.{formula_of}
@@ -21,7 +22,6 @@ use Rattle.formula_theory.proofs.FormulaVerdict.{formula_verdict}
 use Rattle.formula_theory.proofs.Printed.{formula_read_back}
 use Rattle.formula_text.specs.Written.{text_for}
 use Rattle.formula_entries.specs.Told.{formula_test, formula_reply, judge_formula_reply, formula_told, judge_formula_told}
-use Rattle.formula_entries.proofs.EntryLaws.{ordinary-some, ordinary_most}
 
 module _ (f : List ℕ) (fine : verdict_of f ≡ Fine) where
   abbrev P : Problem

@@ -10,6 +10,7 @@ use native.Mathlib.Omega.{arith}
 use Rattle.formula.specs.Text.{literals_at, end_at, clauses_at}
 use Rattle.buffer.specs.Stored.{joined}
 use Rattle.mask.proofs.Logic.{by_eq, by_lt}
+use Rattle.mask.proofs.Words.{set_most}
 use Rattle.formula_index.specs.Chains.{last_from, place_of, last_of, start_to, next_to, head_to, before}
 
 -- The first k clauses are read: q is the place behind them, and these are the arrays.
@@ -59,13 +60,6 @@ clauses_listed t most p (suc c) = rw (clauses_last, clauses_listed t most p c)
 
 zeros : (n v : ℕ) → get_or {A = ℕ} (replicate n 0) v 0 ≡ 0
 zeros n v = by_lt v n (get_or-replicate n v 0 0) (λ h. get_or-eq_default (replicate n 0) 0 (rw length-replicate h))
-
-set_most : (l : List ℕ) (i v x most : ℕ) → x ≤ most → get_or l v 0 ≤ most → get_or (set l i x) v 0 ≤ most
-set_most [] i v x most h g = g
-set_most (y ∷ l) zero zero x most h g = h
-set_most (y ∷ l) zero (suc v) x most h g = g
-set_most (y ∷ l) (suc i) zero x most h g = g
-set_most (y ∷ l) (suc i) (suc v) x most h g = set_most l i v x most h g
 
 module _ (t : List ℕ) (most p : ℕ) where
   pub last_small : (k : ℕ) → last_of t most p k < 513

@@ -1,6 +1,6 @@
 -- What the groups of a file are as files: each is accepted, shows the group's numbers, has one group, and has the verdict of the group's
 -- problem; so the file is won exactly if all of its groups' files are.
-use Prim.Native.Nat.{ℕ, ◌≤◌, ◌<◌}
+use Prim.Native.Nat.{ℕ, ◌+◌, ◌≤◌, ◌<◌}
 use mathlib.Core.Path.{◌≡◌, refl, sym, ap, ap₂, ◌∙◌}
 use mathlib.Core.Bool.{Bool, true, ◌&&◌, ◌||◌}
 use mathlib.Core.List.{List, [], ◌∷◌, ◌++◌}
@@ -28,22 +28,24 @@ use Rattle.theory.proofs.Lists.{get_d_list_of}
 use Rattle.buffer.specs.Stored.{stored}
 use Rattle.buffer.proofs.StoredLaws.{stored-start}
 use Rattle.file_reader.specs.Reading.{n_of, t_of, verdict_of, head_of}
-use Rattle.file_reader.proofs.Accepted.{accepted, variables_and_ternaries}
+use Rattle.file_reader.proofs.Accepted.{accepted}
 use Rattle.file_writer.specs.Tests.{rules_fit}
 use Rattle.file_round_trip.specs.Shown.{Shown}
 use Rattle.file_round_trip.proofs.RoundTrip.{rules_shown}
 use Rattle.file_decoder.specs.FileProblem.{problem_of, ternary_of, ordinary_of}
+use Rattle.file_decoder.proofs.FileLaws.{ordinary_most}
 use Rattle.file_decoder.proofs.ReadLaws.{read_fine}
 use Rattle.problem_numbers.specs.Numbers.{tied, row_of, numbers_of}
 use Rattle.problem_theory.proofs.FileLaws.{file_accepted, file_shown, file_binary, file_ties, file_same, file_verdict}
 use Rattle.buffer.specs.Fitting.{fit_test}
-use Rattle.group.specs.Groups.{old_number, group_size, groups}
+use Rattle.group.specs.Groups.{old_number, group_of, group_size, groups}
 use Rattle.group.specs.GroupProblem.{group_problem, group_file}
 use Rattle.group_theory.proofs.GroupLaws.{group_full, size_most}
 use Rattle.group_theory.proofs.GroupVerdict.{groups_verdict}
 use Rattle.group_theory.proofs.OneGroup.{groups_same, group_one}
 use Rattle.group_entries.specs.Told.{groups_told, group_test, group_reply, group_buffer, write_group_told, write_group_left}
 use Rattle.group_entries.specs.Won.{file_won}
+use Rattle.group_entries.proofs.TernaryGroups.{one_group, groups_own}
 
 -- An accepted file is won if its problem is, and so exactly if its ordinary problem is.
 won_by : (f : List ℕ) (fine : verdict_of f ≡ Fine) → file_won f ≡ ternary_verdict (ternary_of f fine) []
@@ -89,9 +91,16 @@ module _ (f : List ℕ) (fine : verdict_of f ≡ Fine) where
   unfolding head_of
   rules_low = rules_shown f (accepted f fine)
 
-  variables : P.n ≤ 32
-  unfolding ordinary_of expanded ternary_of problem_of
-  variables = variables_and_ternaries f fine
+  -- "A table over three choices" joins its three, in whose group its hidden variable is; so there are no more groups than the file's own variables.
+  pub ternary_group : (r : ℕ) → r < t_of f → let J = ternary_of f fine in
+      (group_of P (J.one r) ≡ group_of P (n_of f + r)) × (group_of P (J.two r) ≡ group_of P (n_of f + r))
+      × (group_of P (J.three r) ≡ group_of P (n_of f + r))
+  unfolding ordinary_of ternary_of problem_of
+  ternary_group r h = one_group (ternary_of f fine) r h
+
+  pub groups_few : groups P ≤ n_of f
+  unfolding ordinary_of ternary_of problem_of
+  groups_few = groups_own (ternary_of f fine)
 
   module _ (g : ℕ) (h : g < groups P) where
     abbrev part : Problem
@@ -106,7 +115,7 @@ module _ (f : List ℕ) (fine : verdict_of f ≡ Fine) where
 
     many : part.n ≤ 32
     unfolding group_problem
-    many = omega (arith, size_most P g, variables)
+    many = omega (arith, size_most P g, ordinary_most f fine)
 
     -- The group's file is accepted, and reading and look-up show the group's numbers.
     pub group_accepted : verdict_of F ≡ Fine

@@ -4,7 +4,7 @@
 use mathlib.Core.Path.{◌≡◌, refl, ap, ◌∙◌}
 use mathlib.Core.Bool.{Bool, false, cond}
 use mathlib.Core.List.{List, [], ◌∷◌}
-use Prim.Native.Nat.{ℕ, ◌+◌, ◌≤◌, ◌<◌}
+use Prim.Native.Nat.{ℕ, ◌≤◌, ◌<◌}
 use native.Mathlib.Omega.{arith}
 use lib.Dec.{T}
 use lib.ListN.{get_or}
@@ -19,11 +19,10 @@ use Rattle.refusal.proofs.Chain.{go, stop, then_ok, need_ok}
 use Rattle.rule_set.specs.RuleSet.{is_rule_set, greatest_set}
 use Rattle.file_layout.specs.Layout.{n_of}
 use Rattle.file_records.specs.Records.{verdict_of}
-use Rattle.file_reader.proofs.Accepted.{variables_and_ternaries}
 use Rattle.game.specs.Problem.{Problem}
 use Rattle.game.specs.Ternary.{TernaryProblem, ternary_verdict, ternary_winning}
 use Rattle.file_decoder.specs.FileProblem.{problem_of, ternary_of}
-use Rattle.file_decoder.proofs.FileLaws.{problem_size}
+use Rattle.file_decoder.proofs.FileLaws.{problem_size, ternary_most}
 use Rattle.file_decoder.proofs.ReadLaws.{read_fine}
 use Rattle.position.specs.declared.Position.{Position}
 use Rattle.position.specs.Position.{plays_of, fits_in}
@@ -66,10 +65,6 @@ module _ (f : List ℕ) (fine : verdict_of f ≡ Fine) (p : Position) (set : ℕ
   abbrev pub mark_replied : Marks
   mark_replied = marks_of (mark_told f p set held_room)
 
-  size : J.binary.n + J.ternary ≤ 32
-  unfolding ternary_of problem_of
-  size = variables_and_ternaries f fine
-
   judge_by : (t : Test) → judge_test P.n P.domain p set (room_for J) held_room ≡ t → judge_told f p set held_room ≡ replied_for t (cond (ternary_verdict J (plays_of p)) 1 0 ∷ [])
   unfolding judge_told judge_reply ternary_of
   judge_by t e = read_fine f fault_told _ fine ∙ rw e refl
@@ -104,7 +99,7 @@ module _ (f : List ℕ) (fine : verdict_of f ≡ Fine) (p : Position) (set : ℕ
   -- Every position that fits is judged.
   pub judges : set ≤ greatest_set → T (fits_in p P.n P.domain) → judge_replied ≡ record { kind = 0; number = 0; place = 0; won = cond (ternary_verdict J (plays_of p)) 1 0 }
   unfolding judge_test replied_for judgement_of kind_of number_of place_of value_of
-  judges h t = ap judgement_of (judge_by Fine (then_ok _ _ (position_taken P.n P.domain p set h t) (room_held J size)))
+  judges h t = ap judgement_of (judge_by Fine (then_ok _ _ (position_taken P.n P.domain p set h t) (room_held J (ternary_most f fine))))
 
   -- And it is marked, where a variable is left to play.
   pub marks : set ≤ greatest_set → T (fits_in p P.n P.domain) → p.plays < n_of f
@@ -112,4 +107,4 @@ module _ (f : List ℕ) (fine : verdict_of f ≡ Fine) (p : Position) (set : ℕ
   unfolding mark_test replied_for marks_of kind_of number_of place_of value_of
   marks h t k =
       ap marks_of
-      (mark_by Fine (then_ok _ _ (position_taken P.n P.domain p set h t) (then_ok _ _ (need_ok _ _ (lt-ltb p.plays P.n (omega (arith, problem_size f fine)))) (room_held J size))))
+      (mark_by Fine (then_ok _ _ (position_taken P.n P.domain p set h t) (then_ok _ _ (need_ok _ _ (lt-ltb p.plays P.n (omega (arith, problem_size f fine)))) (room_held J (ternary_most f fine)))))

@@ -16,3 +16,5 @@ pub mod Chains
 pub mod Below
 -- Laws of searches for the first that passes.
 pub mod Found
+-- A bound of the words of a list.
+pub mod Words

@@ -17,7 +17,8 @@ use Rattle.file_records.specs.Records.{verdict_of}
 use Rattle.file_reader.specs.Reading.{t_of, head_of, domain_of, universal_of, domains_of}
 use Rattle.file_reader.proofs.Accepted.{accepted, variables_most, read_domain, domain_read}
 use Rattle.file_bytes.specs.Bytes.{records_from, count_in, variable_bytes, constraint_bytes, domain_in, one_in, two_in, row_handed}
-use Rattle.file_round_trip.proofs.Parts.{part, variable_part, constraint_part, bytes_part}
+use Rattle.file_lookup.specs.Part.{part}
+use Rattle.file_round_trip.proofs.Parts.{variable_part, constraint_part, bytes_part}
 use Rattle.file_constraints.specs.Constraints.{constraints_at, constraint_one, constraint_two, constraint_row}
 use Rattle.file_constraints.specs.Pairs.{constrained_of, compatible_of}
 use Rattle.file_constraints.proofs.ConstraintLaws.{constraints_stand, constraint_below, constraint_inside}

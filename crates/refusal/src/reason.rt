@@ -3,7 +3,7 @@ ghost use Rattle.std.specs.Prelude.{◌≡◌};
 ghost use Rattle.refusal.specs.Reason.{number_of, ◌at◌};
 ghost use Rattle.refusal.specs.declared.reason.Refusal.TheVariants.{InFile, InCall};
 
-// The reasons of documents 01 and 02 with their numbers: a caller's input from 1, the state from 20.
+// The reasons of documents 01 and 02 with their numbers: a caller's input 1 to 13, 26 and 27, the state from 20 to 25.
 #[derive(Clone, Copy, PartialEq, Eq)]
 pub enum Reason {
     Short = 1,

@@ -24,12 +24,13 @@ use Rattle.file_reader.specs.declared.Head.{Head}
 use Rattle.file_records.specs.Records.{verdict_of}
 use Rattle.rule_set.proofs.RuleSetLaws.{set_most}
 use Rattle.file_reader.specs.Used.{rules_used}
-use Rattle.file_reader.proofs.Accepted.{Shows, accepted, variables_and_ternaries, universal-shown}
+use Rattle.file_reader.proofs.Accepted.{Shows, accepted, universal-shown}
 use Rattle.file_reader.proofs.UsedLaws.{used_set}
 use Rattle.game.specs.Problem.{Problem}
 use Rattle.game.specs.Ternary.{TernaryProblem, ternary_verdict, ternary_winning}
 use Rattle.theory.proofs.TurnLists.{legal_in}
 use Rattle.file_decoder.specs.FileProblem.{problem_of, ternary_of}
+use Rattle.file_decoder.proofs.FileLaws.{ternary_most}
 use Rattle.file_decoder.proofs.ReadLaws.{read_refused, read_fine}
 use Rattle.position.specs.declared.Position.{Position}
 use Rattle.position.specs.Position.{shown, plays_of, fits_in}
@@ -108,10 +109,6 @@ module _ (f : List ℕ) (fine : verdict_of f ≡ Fine) (p : Position) (set words
   abbrev J : TernaryProblem
   J = ternary_of f fine
 
-  few : J.binary.n + J.ternary ≤ 32
-  unfolding problem_of ternary_of
-  few = variables_and_ternaries f fine
-
   some : 0 < P.n
   unfolding problem_of
   some = (accepted f fine).head.counts.some
@@ -123,7 +120,7 @@ module _ (f : List ℕ) (fine : verdict_of f ≡ Fine) (p : Position) (set words
       ∙ ap says_one
       (e
       ∙ read_fine f _ _ fine
-      ∙ rw (fresh, long) (ap (λ (t : Test). replied_for t (cond (ternary_verdict J []) 1 0 ∷ [])) (fresh_judge J set few rules)))
+      ∙ rw (fresh, long) (ap (λ (t : Test). replied_for t (cond (ternary_verdict J []) 1 0 ∷ [])) (fresh_judge J set (ternary_most f fine) rules)))
       ∙ one_says (ternary_verdict J [])
 
   pub marks_first : (r : Result Marks Refusal) (m : Marks) → ResultUnwrapsOrElse r (λ z. (z.winning ≡ 0) × (z.domain ≡ 0)) m → toldMarks r ≡ mark_told f p set words → m ≡ record { winning = ternary_winning J []; domain = get_or J.binary.domain 0 0 }
@@ -132,7 +129,7 @@ module _ (f : List ℕ) (fine : verdict_of f ≡ Fine) (p : Position) (set words
       let t : toldMarks r ≡ replied (ternary_winning J [] ∷ get_or P.domain 0 0 ∷ []) =
       e
       ∙ read_fine f _ _ fine
-      ∙ rw (fresh, long) (ap (λ (t : Test). replied_for t (ternary_winning J [] ∷ get_or P.domain 0 0 ∷ [])) (fresh_mark J set few rules some)) in
+      ∙ rw (fresh, long) (ap (λ (t : Test). replied_for t (ternary_winning J [] ∷ get_or P.domain 0 0 ∷ [])) (fresh_mark J set (ternary_most f fine) rules some)) in
       marks_in r m d ∙ ap masks_in t
 
 -- ---- the texts

@@ -10,7 +10,7 @@ use Rattle.file_layout.specs.Numbers.{counts_fit, in_order, pair_of, row_fits, r
 use Rattle.file_layout.specs.Layout.{word, marked, opened, rules_of, variables_at, domain_at, universal_at, row_at, pair_at, constraints_at, after_constraints, number_at, body_at, ternary_at, leading, t_of, end_at}
 use Rattle.file_records.specs.Records.{qp_test, rs_test, variable_test as variableFine, variables_test, constraint_test, last_pair, constraints_test, ternary_test, scope_at, last_scope, ternaries_test, en_test, rest_test, verdict_of}
 use Rattle.file_reader.specs.Reading.{header_numbers, head_of, domain_of, universal_of, universal_bits, header_for, header_of}
-use Rattle.file_lookup.specs.Part.{part_at}
+use Rattle.file_lookup.specs.Part.{part, part_at}
 use Rattle.file_lookup.specs.Lookup.{place_to, pair_place, look_for, look_up, rows_at}
 use Rattle.file_lookup.specs.Ternary.{body_record, body_from, body_place, look_ternary, look_up_ternary}
 use Rattle.file_constraints.specs.Ternaries.{ternary_one, ternary_two, ternary_three, ternary_size, ternary_value}
@@ -46,7 +46,7 @@ unfolding words variables constraints ternaries file_with
 layout = tt
 
 reading : Unit {0}
-unfolding some each bit mask_of ◌then◌ need only placed counts_fit in_order pair_of row_fits rows_fit constraint_fits scope_of triple_of triple_in in_mask values_in above_last triples_fit scope_fits count_fits ternary_fits word marked opened rules_of variables_at domain_at universal_at row_at pair_at constraints_at after_constraints number_at body_at ternary_at leading t_of end_at qp_test rs_test variableFine variables_test constraint_test last_pair constraints_test ternary_test scope_at last_scope ternaries_test en_test rest_test verdict_of header_numbers head_of universal_bits header_for header_of place_to pair_place look_for look_up part_at rows_at body_record body_from body_place look_ternary look_up_ternary
+unfolding some each bit mask_of ◌then◌ need only placed counts_fit in_order pair_of row_fits rows_fit constraint_fits scope_of triple_of triple_in in_mask values_in above_last triples_fit scope_fits count_fits ternary_fits word marked opened rules_of variables_at domain_at universal_at row_at pair_at constraints_at after_constraints number_at body_at ternary_at leading t_of end_at qp_test rs_test variableFine variables_test constraint_test last_pair constraints_test ternary_test scope_at last_scope ternaries_test en_test rest_test verdict_of header_numbers head_of universal_bits header_for header_of place_to pair_place look_for look_up part part_at rows_at body_record body_from body_place look_ternary look_up_ternary
 reading = tt
 
 game : Unit {0}

@@ -10,24 +10,16 @@ use native.Mathlib.Omega.{arith}
 use borrow.Author.Tests.{eq-eqb, ne_eqb}
 use Rattle.mask.specs.Mask.{bit}
 use Rattle.file_decoder.specs.Tables.{linked, numbered, blocks}
+use Rattle.ternary_decoder.specs.Tables.{near_added, index_added, rows_added}
 use Rattle.file_decoder.proofs.Pairs.{length-blocks, blocks-before, blocks_row, blocks_column, length-linked, linked_other, bit_linked}
 use Rattle.file_decoder.proofs.Pairs.{length-numbered, numbered_other, numbered_back, numbered_on, numbered_most}
 
--- The arrays that come of it: u is one of the three; the word x of the index is none of the pair of h and y; rows r e towards h, and s e back.
+-- u is one of the three; the word x of the index is none of the pair of h and y.
 abbrev pub one_of : ℕ → ℕ → ℕ → ℕ → Bool
 one_of i j k u = eqb u i || (eqb u j || eqb u k)
 
-abbrev pub near_3 : List ℕ → ℕ → ℕ → ℕ → ℕ → List ℕ
-near_3 l i j k h = linked (linked (linked l i h) j h) k h
-
 abbrev pub Away : ℕ → ℕ → ℕ → Type 0
 Away h x y = ¬ (x ≡ 32 * y + h) × ¬ (x ≡ 32 * h + y)
-
-abbrev pub index_3 : List ℕ → ℕ → ℕ → ℕ → ℕ → ℕ → List ℕ
-index_3 l i j k h t = numbered (numbered (numbered l i h t) j h (t + 1)) k h (t + 2)
-
-abbrev pub rows_3 : List ℕ → ℕ → (ℕ → ℕ → ℕ) → (ℕ → ℕ → ℕ) → List ℕ
-rows_3 l t r s = blocks (blocks (blocks l t (r 0) (s 0)) (t + 1) (r 1) (s 1)) (t + 2) (r 2) (s 2)
 
 -- ---- neighbours
 
@@ -75,17 +67,17 @@ module _ (i j k h : ℕ) (ij : i < j) (jk : j < k) (kh : k < h) (most : h < 32) 
     long_2 : length near_2 ≡ 32
     long_2 = length-linked near_1 j h ∙ long_1
 
-    pub long_near : length (near_3 l i j k h) ≡ 32
+    pub long_near : length (near_added l i j k h) ≡ 32
     long_near = length-linked near_2 k h ∙ long_2
 
-    pub near_old : (u v : ℕ) → ¬ (u ≡ h) → ¬ (v ≡ h) → bit (get_or (near_3 l i j k h) u 0) v ≡ bit (get_or l u 0) v
+    pub near_old : (u v : ℕ) → ¬ (u ≡ h) → ¬ (v ≡ h) → bit (get_or (near_added l i j k h) u 0) v ≡ bit (get_or l u 0) v
     near_old u v d e =
         side_old near_2 k h kh (omega (arith, long_2)) u v d e
         ∙ side_old near_1 j h (omega arith) (omega (arith, long_1)) u v d e
         ∙ side_old l i h (omega arith) (omega (arith, long)) u v d e
 
     -- h, which had no neighbours, and those that have it for one.
-    pub near_up : (u : ℕ) → ¬ (u ≡ h) → bit (get_or l u 0) h ≡ false → bit (get_or (near_3 l i j k h) u 0) h ≡ one_of i j k u
+    pub near_up : (u : ℕ) → ¬ (u ≡ h) → bit (get_or l u 0) h ≡ false → bit (get_or (near_added l i j k h) u 0) h ≡ one_of i j k u
     near_up u d z =
         side_up near_2 k h kh (omega (arith, long_2)) u d
         ∙ ap (λ (b : Bool). eqb u k || b) (side_up near_1 j h (omega arith) (omega (arith, long_1)) u d)
@@ -93,7 +85,7 @@ module _ (i j k h : ℕ) (ij : i < j) (jk : j < k) (kh : k < h) (most : h < 32) 
         ∙ ap (λ (b : Bool). eqb u k || (eqb u j || (eqb u i || b))) z
         ∙ three_ways (eqb u i) (eqb u j) (eqb u k)
 
-    pub near_down : (v : ℕ) → bit (get_or l h 0) v ≡ false → bit (get_or (near_3 l i j k h) h 0) v ≡ one_of i j k v
+    pub near_down : (v : ℕ) → bit (get_or l h 0) v ≡ false → bit (get_or (near_added l i j k h) h 0) v ≡ one_of i j k v
     near_down v z =
         side_down near_2 k h kh (omega (arith, long_2)) v
         ∙ ap (λ (b : Bool). eqb v k || b) (side_down near_1 j h (omega arith) (omega (arith, long_1)) v)
@@ -101,7 +93,7 @@ module _ (i j k h : ℕ) (ij : i < j) (jk : j < k) (kh : k < h) (most : h < 32) 
         ∙ ap (λ (b : Bool). eqb v k || (eqb v j || (eqb v i || b))) z
         ∙ three_ways (eqb v i) (eqb v j) (eqb v k)
 
-    pub near_above : (u : ℕ) → h < u → get_or (near_3 l i j k h) u 0 ≡ get_or l u 0
+    pub near_above : (u : ℕ) → h < u → get_or (near_added l i j k h) u 0 ≡ get_or l u 0
     near_above u g =
         linked_other near_2 k h u (λ e. omega arith) (λ e. omega arith)
         ∙ linked_other near_1 j h u (λ e. omega arith) (λ e. omega arith)
@@ -122,46 +114,46 @@ module _ (i j k h : ℕ) (ij : i < j) (jk : j < k) (kh : k < h) (most : h < 32) 
     length_2 : length index_2 ≡ 1024
     length_2 = length-numbered index_1 j h (t + 1) ∙ length_1
 
-    pub long_index : length (index_3 l i j k h t) ≡ 1024
+    pub long_index : length (index_added l i j k h t) ≡ 1024
     long_index = length-numbered index_2 k h (t + 2) ∙ length_2
 
-    pub index_other : (x : ℕ) → Away h x i → Away h x j → Away h x k → get_or (index_3 l i j k h t) x 0 ≡ get_or l x 0
+    pub index_other : (x : ℕ) → Away h x i → Away h x j → Away h x k → get_or (index_added l i j k h t) x 0 ≡ get_or l x 0
     index_other x a b c =
         numbered_other index_2 k h (t + 2) x c.0 c.1 ∙ numbered_other index_1 j h (t + 1) x b.0 b.1 ∙ numbered_other l i h t x a.0 a.1
 
-    pub index_most : (w x : ℕ) → 2 * (t + 3) ≤ w → get_or l x 0 ≤ w → get_or (index_3 l i j k h t) x 0 ≤ w
+    pub index_most : (w x : ℕ) → 2 * (t + 3) ≤ w → get_or l x 0 ≤ w → get_or (index_added l i j k h t) x 0 ≤ w
     index_most w x g s =
         numbered_most index_2 k h (t + 2) w x (omega arith)
         (numbered_most index_1 j h (t + 1) w x (omega arith)
         (numbered_most l i h t w x (omega arith) s))
 
     -- The pair of h and each of the three.
-    pub on_one : get_or (index_3 l i j k h t) (32 * i + h) 0 ≡ 2 * t + 1
+    pub on_one : get_or (index_added l i j k h t) (32 * i + h) 0 ≡ 2 * t + 1
     on_one =
         numbered_other index_2 k h (t + 2) (32 * i + h) (λ e. omega arith) (λ e. omega arith)
         ∙ numbered_other index_1 j h (t + 1) (32 * i + h) (λ e. omega arith) (λ e. omega arith)
         ∙ numbered_on l i h t (omega arith) most (omega (arith, long))
 
-    pub back_one : get_or (index_3 l i j k h t) (32 * h + i) 0 ≡ 2 * t + 2
+    pub back_one : get_or (index_added l i j k h t) (32 * h + i) 0 ≡ 2 * t + 2
     back_one =
         numbered_other index_2 k h (t + 2) (32 * h + i) (λ e. omega arith) (λ e. omega arith)
         ∙ numbered_other index_1 j h (t + 1) (32 * h + i) (λ e. omega arith) (λ e. omega arith)
         ∙ numbered_back l i h t (omega (arith, long))
 
-    pub on_two : get_or (index_3 l i j k h t) (32 * j + h) 0 ≡ 2 * (t + 1) + 1
+    pub on_two : get_or (index_added l i j k h t) (32 * j + h) 0 ≡ 2 * (t + 1) + 1
     on_two =
         numbered_other index_2 k h (t + 2) (32 * j + h) (λ e. omega arith) (λ e. omega arith)
         ∙ numbered_on index_1 j h (t + 1) (omega arith) most (omega (arith, length_1))
 
-    pub back_two : get_or (index_3 l i j k h t) (32 * h + j) 0 ≡ 2 * (t + 1) + 2
+    pub back_two : get_or (index_added l i j k h t) (32 * h + j) 0 ≡ 2 * (t + 1) + 2
     back_two =
         numbered_other index_2 k h (t + 2) (32 * h + j) (λ e. omega arith) (λ e. omega arith)
         ∙ numbered_back index_1 j h (t + 1) (omega (arith, length_1))
 
-    pub on_three : get_or (index_3 l i j k h t) (32 * k + h) 0 ≡ 2 * (t + 2) + 1
+    pub on_three : get_or (index_added l i j k h t) (32 * k + h) 0 ≡ 2 * (t + 2) + 1
     on_three = numbered_on index_2 k h (t + 2) kh most (omega (arith, length_2))
 
-    pub back_three : get_or (index_3 l i j k h t) (32 * h + k) 0 ≡ 2 * (t + 2) + 2
+    pub back_three : get_or (index_added l i j k h t) (32 * h + k) 0 ≡ 2 * (t + 2) + 2
     back_three = numbered_back index_2 k h (t + 2) (omega (arith, length_2))
 
 -- ---- rows
@@ -180,31 +172,31 @@ module _ (l : List ℕ) (t : ℕ) (r s : ℕ → ℕ → ℕ) (long : length l �
   size_2 : length rows_2 ≡ 15888
   size_2 = length-blocks rows_1 (t + 1) (r 1) (s 1) ∙ size_1
 
-  pub long_rows : length (rows_3 l t r s) ≡ 15888
+  pub long_rows : length (rows_added l t r s) ≡ 15888
   long_rows = length-blocks rows_2 (t + 2) (r 2) (s 2) ∙ size_2
 
-  before_two : (x : ℕ) → x < 32 * (t + 1) + 16 → get_or (rows_3 l t r s) x 0 ≡ get_or rows_1 x 0
+  before_two : (x : ℕ) → x < 32 * (t + 1) + 16 → get_or (rows_added l t r s) x 0 ≡ get_or rows_1 x 0
   before_two x h = blocks-before rows_2 (t + 2) (r 2) (s 2) x (omega arith) ∙ blocks-before rows_1 (t + 1) (r 1) (s 1) x h
 
-  pub rows-before : (x : ℕ) → x < 32 * t + 16 → get_or (rows_3 l t r s) x 0 ≡ get_or l x 0
+  pub rows-before : (x : ℕ) → x < 32 * t + 16 → get_or (rows_added l t r s) x 0 ≡ get_or l x 0
   rows-before x h = before_two x (omega arith) ∙ blocks-before l t (r 0) (s 0) x h
 
-  pub rows_one : (a : ℕ) → a < 16 → get_or (rows_3 l t r s) (32 * t + 16 + a) 0 ≡ r 0 a
+  pub rows_one : (a : ℕ) → a < 16 → get_or (rows_added l t r s) (32 * t + 16 + a) 0 ≡ r 0 a
   rows_one a h = before_two (32 * t + 16 + a) (omega arith) ∙ blocks_row l t (r 0) (s 0) a (omega (arith, long)) h
 
-  pub columns_one : (a : ℕ) → a < 16 → get_or (rows_3 l t r s) (32 * t + 32 + a) 0 ≡ s 0 a
+  pub columns_one : (a : ℕ) → a < 16 → get_or (rows_added l t r s) (32 * t + 32 + a) 0 ≡ s 0 a
   columns_one a h = before_two (32 * t + 32 + a) (omega arith) ∙ blocks_column l t (r 0) (s 0) a (omega (arith, long)) h
 
-  pub rows_two : (a : ℕ) → a < 16 → get_or (rows_3 l t r s) (32 * (t + 1) + 16 + a) 0 ≡ r 1 a
+  pub rows_two : (a : ℕ) → a < 16 → get_or (rows_added l t r s) (32 * (t + 1) + 16 + a) 0 ≡ r 1 a
   rows_two a h =
       blocks-before rows_2 (t + 2) (r 2) (s 2) (32 * (t + 1) + 16 + a) (omega arith) ∙ blocks_row rows_1 (t + 1) (r 1) (s 1) a (omega (arith, size_1)) h
 
-  pub columns_two : (a : ℕ) → a < 16 → get_or (rows_3 l t r s) (32 * (t + 1) + 32 + a) 0 ≡ s 1 a
+  pub columns_two : (a : ℕ) → a < 16 → get_or (rows_added l t r s) (32 * (t + 1) + 32 + a) 0 ≡ s 1 a
   columns_two a h =
       blocks-before rows_2 (t + 2) (r 2) (s 2) (32 * (t + 1) + 32 + a) (omega arith) ∙ blocks_column rows_1 (t + 1) (r 1) (s 1) a (omega (arith, size_1)) h
 
-  pub rows_three : (a : ℕ) → a < 16 → get_or (rows_3 l t r s) (32 * (t + 2) + 16 + a) 0 ≡ r 2 a
+  pub rows_three : (a : ℕ) → a < 16 → get_or (rows_added l t r s) (32 * (t + 2) + 16 + a) 0 ≡ r 2 a
   rows_three a h = blocks_row rows_2 (t + 2) (r 2) (s 2) a (omega (arith, size_2)) h
 
-  pub columns_three : (a : ℕ) → a < 16 → get_or (rows_3 l t r s) (32 * (t + 2) + 32 + a) 0 ≡ s 2 a
+  pub columns_three : (a : ℕ) → a < 16 → get_or (rows_added l t r s) (32 * (t + 2) + 32 + a) 0 ≡ s 2 a
   columns_three a h = blocks_column rows_2 (t + 2) (r 2) (s 2) a (omega (arith, size_2)) h

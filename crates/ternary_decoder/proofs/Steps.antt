@@ -22,9 +22,9 @@ use Rattle.file_constraints.specs.Ternaries.{ternary_one, ternary_two, ternary_t
 use Rattle.file_decoder.proofs.Stated.{all_ones}
 use Rattle.ternary_decoder.specs.Tables.{places_with, value_mask, places_of, near_added, index_added, rows_added, Adds}
 use Rattle.ternary_decoder.specs.Stated.{TernaryStated}
-use Rattle.ternary_decoder.proofs.Sides.{one_of, near_3, long_near, near_old, near_up, near_down, near_above, Away, index_3, long_index, index_other, index_most}
+use Rattle.ternary_decoder.proofs.Sides.{one_of, long_near, near_old, near_up, near_down, near_above, Away, long_index, index_other, index_most}
 use Rattle.ternary_decoder.proofs.Sides.{on_one, back_one, on_two, back_two, on_three, back_three}
-use Rattle.ternary_decoder.proofs.Sides.{rows_3, long_rows, rows-before, rows_one, columns_one, rows_two, columns_two, rows_three, columns_three}
+use Rattle.ternary_decoder.proofs.Sides.{long_rows, rows-before, rows_one, columns_one, rows_two, columns_two, rows_three, columns_three}
 
 -- Constraint r of J is that of the record at p.
 pub record OfRecord (J : TernaryProblem) (r : ℕ) (f : List ℕ) (p : ℕ) : Type 0 where
@@ -65,16 +65,13 @@ module _ (J : TernaryProblem) (m r : ℕ) (A : Arrays) (S : TernaryStated J m r 
   kh : k < h
   kh = let e = kn in omega arith
 
-  near : B.near ≡ near_3 A.near i j k h
-  unfolding near_added
+  near : B.near ≡ near_added A.near i j k h
   near = rw (d.one, d.two, d.three, ← S.size) adds.near
 
-  index : B.index ≡ index_3 A.index i j k h t
-  unfolding index_added
+  index : B.index ≡ index_added A.index i j k h t
   index = rw (d.one, d.two, d.three, ← S.size) adds.index
 
-  rows : B.rows ≡ rows_3 A.rows t (places_with f p) (value_mask f p)
-  unfolding rows_added
+  rows : B.rows ≡ rows_added A.rows t (places_with f p) (value_mask f p)
   rows = adds.rows
 
   domains : B.domains ≡ set A.domains h (places_of f p)
@@ -102,10 +99,10 @@ module _ (J : TernaryProblem) (m r : ℕ) (A : Arrays) (S : TernaryStated J m r 
       (λ g. both_hidden_free J h u (omega arith) g ∙ sym (behind u g))
 
   -- Words of the index, and rows.
-  index_at : (x : ℕ) → get_or B.index x 0 ≡ get_or (index_3 A.index i j k h t) x 0
+  index_at : (x : ℕ) → get_or B.index x 0 ≡ get_or (index_added A.index i j k h t) x 0
   index_at x = ap (λ (l : List ℕ). get_or l x 0) index
 
-  rows_at : (x : ℕ) → get_or B.rows x 0 ≡ get_or (rows_3 A.rows t (places_with f p) (value_mask f p)) x 0
+  rows_at : (x : ℕ) → get_or B.rows x 0 ≡ get_or (rows_added A.rows t (places_with f p) (value_mask f p)) x 0
   rows_at x = ap (λ (l : List ℕ). get_or l x 0) rows
 
   away : (x : ℕ) → ((y : ℕ) → y < J.binary.n → one_of i j k y ≡ true → Away h x y) → get_or B.index x 0 ≡ get_or A.index x 0
@@ -214,7 +211,7 @@ module _ (J : TernaryProblem) (m r : ℕ) (A : Arrays) (S : TernaryStated J m r 
   none_of : (v : ℕ) → bit (get_or A.near h 0) v ≡ false
   none_of v = ap (λ (x : ℕ). bit x v) (S.blank h (omega arith)) ∙ bit_of_zero v
 
-  near_at : (u v : ℕ) → bit (get_or B.near u 0) v ≡ bit (get_or (near_3 A.near i j k h) u 0) v
+  near_at : (u v : ℕ) → bit (get_or B.near u 0) v ≡ bit (get_or (near_added A.near i j k h) u 0) v
   near_at u v = ap (λ (l : List ℕ). bit (get_or l u 0) v) near
 
   joins : (u v : ℕ) → u ≤ h → v ≤ h → constrained_with J u v ≡ bit (get_or B.near u 0) v

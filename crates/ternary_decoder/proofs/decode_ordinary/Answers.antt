@@ -6,7 +6,7 @@ use Rattle.file_reader.specs.Reading.{told, domains_shown}
 use Rattle.file_reader.proofs.Accepted.{shown_counts, Shows, header_shows, header_refuses}
 use Rattle.file_decoder.proofs.Stated.{BinaryStated, entered}
 use Rattle.file_decoder.proofs.Stated.{ready as constraints_ready}
-use Rattle.file_constraints.proofs.TernaryLaws.{constraints_near, behind_constraints, numbers_most}
+use Rattle.file_constraints.proofs.TernaryLaws.{constraints_near, behind_constraints, entered_most}
 use Rattle.file_constraints.specs.Ternaries.{t_of}
 use Rattle.file_decoder.specs.FileProblem.{ternary_of}
 use Rattle.ternary_decoder.specs.Stated.{TernaryStated}
@@ -37,7 +37,7 @@ binary c s =
 
 pub overflow_add-q : goal.overflow_add-q
 overflow_add-q c =
-    let s = shows (goal.at.overflow_add-q c).In_ok-r in omega (arith, c.constraints_at-q.ensures, constraints_near c.args.f.now s.fine, s.constraints, numbers_most c.args.f.now s.fine)
+    let s = shows (goal.at.overflow_add-q c).In_ok-r in omega (arith, c.constraints_at-q.ensures, constraints_near c.args.f.now s.fine, s.constraints, entered_most c.args.f.now s.fine)
 
 pub put_ternaries-requires-clause-stand : goal.put_ternaries-requires-clause-stand
 put_ternaries-requires-clause-stand c =
@@ -47,7 +47,7 @@ put_ternaries-requires-clause-stand c =
 
 pub put_ternaries-requires-clause-numbers : goal.put_ternaries-requires-clause-numbers
 put_ternaries-requires-clause-numbers c =
-    let s = shows (goal.at.put_ternaries-requires-clause-numbers c).In_ok-r in omega (arith, s.constraints, s.ternaries, numbers_most c.args.f.now s.fine)
+    let s = shows (goal.at.put_ternaries-requires-clause-numbers c).In_ok-r in omega (arith, s.constraints, s.ternaries, entered_most c.args.f.now s.fine)
 
 pub put_ternaries-requires-clause-existential : goal.put_ternaries-requires-clause-existential
 put_ternaries-requires-clause-existential c =

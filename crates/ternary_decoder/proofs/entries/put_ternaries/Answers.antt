@@ -4,14 +4,14 @@ use native.Mathlib.Numerals.{add-one}
 use native.Mathlib.Omega.{arith}
 use Rattle.mask.specs.Mask.{bit}
 use Rattle.file_constraints.specs.Ternaries.{ternary_at}
-use Rattle.file_constraints.proofs.TernaryLaws.{start_of, behind_ternary}
+use Rattle.file_constraints.proofs.TernaryLaws.{first_at, behind_ternary}
 use Rattle.file_decoder.specs.FileProblem.{ternary_of, record_at}
 use Rattle.ternary_decoder.specs.Stated.{TernaryStated}
 use Rattle.ternary_decoder.proofs.Ordinary.{turn}
 use Rattle.ternary_decoder.proofs.entries.put_ternaries.Goals as goal
 
 pub loop-r-init : goal.loop-r-init
-loop-r-init c = (sym (start_of _ _), omega arith, refl, λ fine q t s. s)
+loop-r-init c = (sym (first_at _ _), omega arith, refl, λ fine q t s. s)
 
 pub invariant_of-c : goal.invariant_of-c
 invariant_of-c c = record { near = rw c.loop-r.invariant.0 (c.requires.stand.near c.loop-r.r (omega arith)) }

@@ -1,9 +1,7 @@
 use mathlib.Core.Path.{refl, ◌∙◌}
-use Rattle.ternary_decoder.specs.Tables.{near_added, index_added, rows_added}
 use Rattle.ternary_decoder.proofs.entries.put_ternary.Goals as goal
 
 pub returns : goal.returns
-unfolding near_added index_added rows_added
 returns c =
     let s = c.scope-i.ensures in
     let x = c.put_side.ensures in
