@@ -1,12 +1,12 @@
 -- The groups of an ordinary problem: a three-way constraint joins its three variables and its hidden one, so every group has a variable of the
 -- problem's own.
-use mathlib.Core.Path.{◌≡◌, sym}
-use mathlib.Core.Bool.{false, ◌||◌}
+use mathlib.Core.Path.{◌≡◌, refl, sym}
+use mathlib.Core.Bool.{false, or-true}
 use Prim.Native.Nat.{ℕ, ◌+◌, ◌≤◌, ◌<◌}
 use native.Mathlib.Omega.{arith}
-use lib.Dec.{T, eqb, eqb_refl}
-use borrow.Author.Tests.{ne_eqb}
-use Rattle.mask.proofs.Logic.{or_left, or_right}
+use lib.Dec.{T, eqb}
+use borrow.Author.Tests.{eq-eqb, ne_eqb}
+use Rattle.mask.proofs.Logic.{or_left}
 use Rattle.mask.proofs.Range.{count-bound, count_split, count_none}
 use Rattle.game.specs.Problem.{Problem}
 use Rattle.game.specs.Ternary.{TernaryProblem}
@@ -25,7 +25,9 @@ module _ (J : TernaryProblem) where
 
   touched : (r x : ℕ) → r < ternary → x < n → T (touches J r x) → group_of P x ≡ group_of P (n + r)
   unfolding tied expanded
-  touched r x h k t = group_tied P x (n + r) (omega arith) (omega arith) (or_left (constrained_with J x (n + r)) (constrained_with J (n + r) x) (rw (hidden_joined J x r k h) t))
+  touched r x h k t =
+      group_tied P x (n + r) (omega arith) (omega arith)
+      (or_left (constrained_with J x (n + r)) (constrained_with J (n + r) x) (rw (hidden_joined J x r k h) t))
 
   -- "A table to each of the three": they lie in the hidden variable's group.
   pub one_group : (r : ℕ) → r < ternary
@@ -33,9 +35,9 @@ module _ (J : TernaryProblem) where
   unfolding touches
   one_group r h =
       let o = J.order r h in (
-        touched r (one r) h (omega (arith, o)) (or_left (eqb (one r) (one r)) (eqb (one r) (two r) || eqb (one r) (three r)) (eqb_refl (one r))),
-        touched r (two r) h (omega (arith, o)) (or_right (eqb (two r) (one r)) (eqb (two r) (two r) || eqb (two r) (three r)) (or_left (eqb (two r) (two r)) (eqb (two r) (three r)) (eqb_refl (two r)))),
-        touched r (three r) h (omega (arith, o)) (or_right (eqb (three r) (one r)) (eqb (three r) (two r) || eqb (three r) (three r)) (or_right (eqb (three r) (two r)) (eqb (three r) (three r)) (eqb_refl (three r)))),
+        touched r (one r) h (omega (arith, o)) (rw (eq-eqb (one r) (one r) refl) tt),
+        touched r (two r) h (omega (arith, o)) (rw (eq-eqb (two r) (two r) refl, or-true (eqb (two r) (one r))) tt),
+        touched r (three r) h (omega (arith, o)) (rw (eq-eqb (three r) (three r) refl, or-true (eqb (three r) (two r)), or-true (eqb (three r) (one r))) tt),
       )
 
   hidden_follows : (r : ℕ) → r < ternary → leads P (n + r) ≡ false
