@@ -46,7 +46,7 @@
 
    Stack: give a call KB_STACK bytes below its caller's frame, whatever the file, but kb_judge_formula KB_FORMULA_STACK: 992 KB of its
    frame are an index of the clauses, and it calls itself once for each boolean, 512 at most. The measured need is less: the proof
-   knows of no stack; host/stack.c measures it (123,012 bytes at the deepest, kb_group; 116,088 for kb_report with 32 choices played
+   knows of no stack; host/stack.c measures it (54,960 bytes at the deepest, kb_group; 50,784 for kb_report with 32 choices played
    one below another; about 1.1 MB for kb_judge_formula). */
 #ifndef KICKBALLBOX_H
 #define KICKBALLBOX_H

@@ -6,6 +6,7 @@ ghost use Rattle.bench.specs.Number.{as_number};
 
 use crate::number::number;
 use rule_entries::{arc, forward_check, interchangeable, look_ahead, pure};
+use solver_arrays::Arrays;
 use ternary_decoder::decode_ordinary;
 
 // Reading and decoding alone: the first domain.
@@ -13,7 +14,11 @@ use ternary_decoder::decode_ordinary;
 pub extern "C" fn bench_decode(f: &[u8]) -> u64
     ensures { result ≡ get_or (domains_of f.now) 0 0 }
 {
-    decode_ordinary(f).map_or(0, |arrays| arrays.domains[0] as u64)
+    let mut arrays = Arrays::empty();
+    match decode_ordinary(f, &mut arrays) {
+        Ok(_) => arrays.domains[0] as u64,
+        Err(_) => 0,
+    }
 }
 
 #[unsafe(no_mangle)]

@@ -3,19 +3,19 @@ use Prim.Native.Nat.{ℕ, ◌+◌, ◌*◌, ◌≤◌, ◌<◌}
 use mathlib.Core.Path.{◌≡◌, refl, sym, ap, subst, ◌∙◌}
 use mathlib.Core.Bool.{true, false, ◌||◌, or-false}
 use mathlib.Core.List.{List}
-use lib.ListN.{length, get_or, take, replicate, length-replicate, get_or-replicate, get_or-eq_default}
+use lib.ListN.{length, get_or, take, length-replicate, get_or-replicate}
 use native.Mathlib.Omega.{arith}
 use Rattle.mask.specs.Range.{some}
 use Rattle.mask.specs.Mask.{bit, mask_of}
-use Rattle.mask.proofs.Logic.{holds, fails, test, by_lt, clash}
+use Rattle.mask.proofs.Logic.{holds, fails, test, clash}
 use Rattle.mask.proofs.Bits.{bit_of_zero, bit_high}
 use Rattle.mask.proofs.Masks.{mask_of_lt, bit-mask_of}
 use Rattle.solver_arrays.specs.declared.arrays.Arrays.{Arrays}
 use Rattle.solver_arrays.specs.Blocks.{InRange}
 use Rattle.solver_arrays.specs.Arrays.{row_in, States}
-use Rattle.std.specs.Prelude.{Result, Ok, Err}
+use Rattle.std.specs.Prelude.{Err}
 use Rattle.refusal.specs.declared.reason.Fault.{Fault}
-use Rattle.refusal.specs.Chain.{Fine}
+use Rattle.refusal.specs.Chain.{Verdict, Fine}
 use Rattle.file_reader.specs.declared.Reading.{Reading}
 use Rattle.file_reader.specs.Reading.{n_of, m_of, domains_of, universal_bits, universal_bits_of, verdict_of}
 use Rattle.file_reader.proofs.Accepted.{Shows, variables_most, domains-length, universal-shown}
@@ -23,6 +23,7 @@ use Rattle.file_constraints.specs.Constraints.{constraints_at, constraint_one, c
 use Rattle.file_constraints.specs.Pairs.{constrained_of, compatible_of}
 use Rattle.file_constraints.proofs.ConstraintLaws.{constraints_stand, constraint_below}
 use Rattle.file_constraints.proofs.PairLaws.{free_of, constrained_out, constrained_on, constrained_back, constrained_below, constrained_is, compatible_on, compatible_back}
+use Rattle.solver_arrays.proofs.EmptyLaws.{zeros, zeros_in_range}
 use Rattle.file_decoder.specs.FileProblem.{problem_of}
 use Rattle.file_decoder.specs.Tables.{column_of, near_to, index_to, rows_to, near_start, index_start, rows_start, SameVariables}
 use Rattle.file_decoder.specs.Decoded.{FileGiven, Decodes, Unconstrained}
@@ -30,12 +31,6 @@ use Rattle.file_decoder.proofs.FileLaws.{problem_size, problem_domains}
 use Rattle.file_decoder.proofs.Entered.{length_rows, rows_first, rows_at, columns_at, length_index, index_on, index_back, index_none, index_most, length_near, near_joins, near_none}
 
 -- ---- before the first constraint
-
-zeros : (n x : ℕ) → ◌≡◌ {A = ℕ} (get_or (replicate n 0) x 0) 0
-zeros n x =
-    by_lt x n
-    (λ h. get_or-replicate n x 0 0 h)
-    (λ h. get_or-eq_default (replicate n 0) 0 {n = x} (omega (arith, length-replicate {A = ℕ} n 0)))
 
 index_zero : (x : ℕ) → get_or index_start x 0 ≡ 0
 unfolding index_start
@@ -216,7 +211,8 @@ ready f q m fine x y = rw (x, y) (constraints_stand f fine)
 
 -- No block is named before the first constraint.
 pub start_in_range : InRange index_start
-start_in_range x = omega (arith, index_zero x)
+unfolding index_start
+start_in_range = zeros_in_range 1024
 
 -- The arrays of a reading, with its file's constraints entered.
 pub entered : (f : List ℕ) (q : ℕ) (r : Reading) (A B : Arrays) → ((k : ℕ) → get_or f k 0 < 256) → (s : Shows f r.head) → r.domains ≡ domains_of f
@@ -252,25 +248,26 @@ entered f q r A B bytes s w x u v e d g =
 -- ---- what decoding leaves
 
 -- A refused file.
-pub leaves : (f : List ℕ) (e : Fault) (r : Result Arrays Fault) → verdict_of f ≡ Err e → r ≡ Err e → Decodes f r
-leaves f e r q t = record {
-  given = λ d g. absurd (cc);
+pub leaves : (f : List ℕ) (A : Arrays) (e : Fault) (r : Verdict) → verdict_of f ≡ Err e → r ≡ Err e → Decodes f A r A
+leaves f A e r q t = record {
+  given = λ g. absurd (cc);
   refused = λ k g. cc;
+  kept = λ k g. refl;
 }
 
 -- An accepted one is entered whole.
-pub enters : (f : List ℕ) (A : Arrays) (fine : verdict_of f ≡ Fine) → BinaryStated f fine A → Decodes f (Ok A)
-enters f A fine b = record {
-  given = λ B z.
-      subst (FileGiven f) {x = A} (cc) record {
-        fine = fine;
-        size = b.own;
-        poses = record {
-          states = subst (λ k. States (problem_of f fine) k A) (sym b.size) b.states;
-          domain = b.domain ∙ ap (λ (k : ℕ). take k A.domains) (sym b.size);
-        };
-      };
+pub enters : (f : List ℕ) (B A : Arrays) (fine : verdict_of f ≡ Fine) → BinaryStated f fine A → Decodes f B Fine A
+enters f B A fine b = record {
+  given = λ z. record {
+    fine = fine;
+    size = b.own;
+    poses = record {
+      states = subst (λ k. States (problem_of f fine) k A) (sym b.size) b.states;
+      domain = b.domain ∙ ap (λ (k : ℕ). take k A.domains) (sym b.size);
+    };
+  };
   refused = λ k z. absurd (cc);
+  kept = λ k z. absurd (cc);
 }
 
 -- The arrays given have the file's domains, of their own variables.

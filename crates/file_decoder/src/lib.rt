@@ -16,30 +16,28 @@ use file_reader::{Reading, read};
 use refusal::Fault;
 use solver_arrays::{Arrays, ROWS};
 
-// The arrays of a reading's variables, before any constraint is entered.
-pub fn unconstrained(r: &Reading) -> Arrays
+// The arrays get a reading's variables, and no constraint.
+pub fn unconstrained(r: &Reading, arrays: &mut Arrays)
     requires { (0 < r.now.head.n) × (r.now.head.n ≤ 32) }
-    ensures { Unconstrained r.now result }
+    ensures { Unconstrained r.now arrays.new }
 {
     let n = r.head.n as usize;
-    let domains = r.domains;
-    Arrays {
-        own: n,
-        n,
-        universal: r.head.universal,
-        domains,
-        near: [0; 32],
-        index: [0; 1024],
-        rows: [65535; ROWS],
-    }
+    arrays.own = n;
+    arrays.n = n;
+    arrays.universal = r.head.universal;
+    arrays.domains = r.domains;
+    arrays.near = [0; 32];
+    arrays.index = [0; 1024];
+    arrays.rows = [65535; ROWS];
 }
 
-// The arrays of an accepted file with its constraints of two variables; all its variables are to play.
-pub fn decode(f: &[u8]) -> Result<Arrays, Fault>
-    ensures { Decodes f.now result }
+// The arrays get an accepted file with its constraints of two variables; all its variables are to play. They are lent, since by value they
+// would be copied twice. A refused file leaves them.
+pub fn decode(f: &[u8], arrays: &mut Arrays) -> Result<(), Fault>
+    ensures { Decodes f.now arrays.old result arrays.new }
 {
     let r = read(f)?;
-    let mut arrays = unconstrained(&r);
-    put_constraints(f, constraints_at(f), r.head.m as usize, &mut arrays);
-    Ok(arrays)
+    unconstrained(&r, arrays);
+    put_constraints(f, constraints_at(f), r.head.m as usize, arrays);
+    Ok(())
 }

@@ -6,7 +6,7 @@ ghost use Rattle.file_records.specs.Tested.{tested};
 ghost use Rattle.file_reader.specs.Parts.{PartsOf};
 
 use crate::parts::Parts;
-use file_layout::{FileRecord, word_at};
+use file_layout::{FileRecord, Variables, byte_at, variables_at, word_at};
 use file_records::{constraints_test, en_test, qp_test, rs_test, ternaries_test, variables_test};
 use refusal::Fault;
 
@@ -16,10 +16,14 @@ fn rest_test<'a>(f: &'a [u8]) -> Result<Parts<'a>, Fault>
     ensures verdict { tested result ≡ rest_test f.now }
     ensures shows { IfOk result (PartsOf f.now) }
 {
-    let variables = variables_test(f)?;
+    let start = variables_at(f);
+    let n = byte_at(f, 2);
+    variables_test(f, start, n)?;
+    let variables = Variables { file: f, start, n };
     let m = word_at(f, 3) as usize;
-    constraints_test(&variables, m)?;
-    let ternaries = ternaries_test(&variables, variables.end() + 36 * m)?;
+    let q = variables.end();
+    constraints_test(&variables, q, m)?;
+    let ternaries = ternaries_test(&variables, q + 36 * m)?;
     let end = FileRecord {
         file: f,
         place: ternaries.end,
@@ -39,6 +43,8 @@ pub fn parts_of<'a>(f: &'a [u8]) -> Result<Parts<'a>, Fault>
     qp_test(f)?;
     let rules = rs_test(f);
     let rest = rest_test(f);
-    // `and`, so that an edit that exchanges the tests is refused for the fact.
-    rules.and(rest)
+    // The rest as a test alone, so that an edit that exchanges the two is refused for the fact.
+    let tested = rest.map(|_| ());
+    rules.and(tested)?;
+    rest
 }

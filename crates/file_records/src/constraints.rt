@@ -1,5 +1,5 @@
 // The records CT, which stand behind the variables.
-ghost use Rattle.std.specs.Prelude.{◌≡◌, ◌+◌, ◌*◌, ◌≤◌};
+ghost use Rattle.std.specs.Prelude.{◌≡◌, ◌≤◌};
 ghost use Rattle.file_records.specs.Records.{constraint_test, constraints_test};
 
 use file_layout::{FileRecord, Variables, constraint_fits, word_at};
@@ -25,12 +25,11 @@ fn constraint_test(v: &Variables, last: usize, r: &FileRecord) -> Result<(), Fau
     fits.map_err(|reason| reason.at(p))
 }
 
-// The m behind the variables.
-pub fn constraints_test(v: &Variables, m: usize) -> Result<(), Fault>
-    requires { m ≤ 496 }
-    ensures { result ≡ constraints_test v.now.file.now v.now.start v.now.n (v.now.start + 4 * v.now.n) m }
+// The m from place q on, in the file of these variables.
+pub fn constraints_test(v: &Variables, q: usize, m: usize) -> Result<(), Fault>
+    requires { (q ≤ 200) × (m ≤ 496) }
+    ensures { result ≡ constraints_test v.now.file.now v.now.start v.now.n q m }
 {
-    let q = v.end();
     let mut last = 0;
     for k in 0..m {
         let r = FileRecord {

@@ -1,11 +1,9 @@
 // The records VE and VA.
-ghost use Rattle.std.specs.Prelude.{◌≡◌, ◌||◌, IfOk};
-ghost use Rattle.refusal.specs.Chain.{Fine};
-ghost use Rattle.file_layout.specs.Layout.{marked, VE, VA, n_of, variables_at};
-ghost use Rattle.file_records.specs.Records.{qp_test, variable_test, variables_test};
-ghost use Rattle.file_records.specs.Tested.{tested, VariablesOf};
+ghost use Rattle.std.specs.Prelude.{◌≡◌, ◌≤◌, ◌||◌};
+ghost use Rattle.file_layout.specs.Layout.{marked, VE, VA};
+ghost use Rattle.file_records.specs.Records.{variable_test, variables_test};
 
-use file_layout::{FileRecord, Variables, byte_at, variables_at};
+use file_layout::FileRecord;
 use refusal::{Fault, Reason, needed};
 
 // Whether it has the mark of a variable.
@@ -22,14 +20,11 @@ fn variable_test(r: &FileRecord) -> Result<(), Fault>
     needed(r.word(2) != 0, Reason::Domain.at(r.place))
 }
 
-// The variables of a file whose QP is fine, where each is.
-pub fn variables_test<'a>(f: &'a [u8]) -> Result<Variables<'a>, Fault>
-    requires { qp_test f.now ≡ Fine }
-    ensures verdict { tested result ≡ variables_test f.now (variables_at f.now) (n_of f.now) }
-    ensures shows { IfOk result (VariablesOf f.now) }
+// The n from this place on.
+pub fn variables_test(f: &[u8], start: usize, n: usize) -> Result<(), Fault>
+    requires { (start ≤ 8) × (n ≤ 32) }
+    ensures { result ≡ variables_test f.now start n }
 {
-    let start = variables_at(f);
-    let n = byte_at(f, 2);
     for k in 0..n {
         let r = FileRecord {
             file: f,
@@ -37,5 +32,5 @@ pub fn variables_test<'a>(f: &'a [u8]) -> Result<Variables<'a>, Fault>
         };
         variable_test(&r)?;
     }
-    Ok(Variables { file: f, start, n })
+    Ok(())
 }

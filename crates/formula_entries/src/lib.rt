@@ -33,7 +33,8 @@ pub fn write_formula(f: &[u8], buf: &mut [u8]) -> Result<usize, Refusal>
     ensures result_value { told result ≡ formula_told f.now (length buf.old) }
     ensures buf_after { buf.new ≡ formula_left f.now buf.old }
 {
-    let arrays = decode_ordinary(f)?;
+    let mut arrays = Arrays::empty();
+    decode_ordinary(f, &mut arrays)?;
     Ok(write_in(&arrays, buf)?)
 }
 

@@ -1,8 +1,9 @@
 -- The lines of the prefix put one behind another.
 use mathlib.Core.Path.{◌≡◌}
 use mathlib.Core.Bool.{Bool, true, false, beq, not}
-use Prim.Native.Nat.{ℕ, ◌+◌, ◌-◌}
+use Prim.Native.Nat.{ℕ, ◌+◌, ◌-◌, ◌≤◌}
 use native.Mathlib.Numerals.{add-one}
+use native.Mathlib.Omega.{arith}
 use borrow.Author.Tests.{eq-eqb, ne_eqb}
 use Rattle.mask.specs.Mask.{bit}
 use Rattle.mask.proofs.Logic.{true_holds, clash}
@@ -13,9 +14,14 @@ use Rattle.buffer.proofs.PutLaws.{put_none, put_behind, put-joined}
 use Rattle.formula.specs.Text.{line_end, letter, line_start}
 use Rattle.solver_arrays.specs.declared.arrays.Arrays.{Arrays}
 use Rattle.formula_words.specs.declared.coded.Coded.{Coded}
-use Rattle.formula_words.specs.Coding.{coded_in}
+use Rattle.formula_words.specs.Coding.{coded_in, Bounded}
 use Rattle.formula_words.specs.Words.{words_text}
+use Rattle.formula_words.proofs.CodingLaws.{coded_bounded}
 use Rattle.formula_text.specs.Body.{turn_text, opening_text, block_text, blocks_text, closes_in, all_in, fresh_text, prefix_lines}
+
+-- The booleans of a variable are few.
+pub coded_few : (A : Arrays) (i : ℕ) (x : Coded) → i ≤ 32 → x ≡ coded_in A i → x.base + x.width ≤ 1024
+coded_few A i x h e = let b : Bounded x = rw e (coded_bounded A i h) in omega arith
 
 module _ {s u : Text} where
   -- From one side to the other.

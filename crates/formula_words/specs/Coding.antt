@@ -1,5 +1,5 @@
 -- What is coded of a variable, over the decoded arrays: `size`, `width`, `ways` and `base` of formula/specs/Encoding.antt.
-use Rattle.std.specs.Prelude.{ℕ, zero, suc, ◌+◌, get_or}
+use Rattle.std.specs.Prelude.{ℕ, zero, suc, ◌+◌, ◌≤◌, get_or}
 use Rattle.mask.specs.Range.{count}
 use Rattle.mask.specs.Mask.{bit}
 use Rattle.formula.specs.Encoding.{width_for, ways_for}
@@ -22,3 +22,9 @@ coded_in A i = record {
   ways = ways_for (bit A.universal i) (size_in A i);
   domain = get_or A.domains i 0;
 }
+
+-- Its numbers are small; so they are for every variable (`coded_bounded`).
+pub record Bounded (x : Coded) : Type 0 where
+  pub base : x.base ≤ 512
+  pub size : x.size ≤ 16
+  pub width : x.width ≤ 16

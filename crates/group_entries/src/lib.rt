@@ -20,7 +20,8 @@ pub fn groups(f: &[u8]) -> Result<Groups, Fault>
     ensures told { told_groups result ≡ groups_told f.now }
     ensures shown { groups_shown result ≡ groups_listed f.now }
 {
-    let arrays = decode_ordinary(f)?;
+    let mut arrays = Arrays::empty();
+    decode_ordinary(f, &mut arrays)?;
     Ok(groups_in(&arrays))
 }
 
@@ -48,5 +49,7 @@ pub fn write_group(f: &[u8], g: usize, buf: &mut [u8]) -> Result<usize, Refusal>
     ensures buf_after { buf.new ≡ write_group_left f.now g buf.old }
 {
     let reading = read(f)?;
-    Ok(write_in(&mut decode_ordinary(f)?, reading.head.rules, g, buf)?)
+    let mut arrays = Arrays::empty();
+    decode_ordinary(f, &mut arrays)?;
+    Ok(write_in(&mut arrays, reading.head.rules, g, buf)?)
 }

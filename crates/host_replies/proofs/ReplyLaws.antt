@@ -142,13 +142,12 @@ named_values (Ok s) = refl
 named_values (Err (InFile f)) = refl
 named_values (Err (InCall e)) = refl
 
-pub value_mask : (r : Result ℕ Refusal) →
-    let a = head_of r in
-    ◌≡◌ {A = ValueMask} (record { kind = a.kind; number = a.number; place = a.place; values = result_unwrap_or r 0 }) (values_of (told_values r))
+pub value_mask : (r : Result ℕ Refusal) (a : CallAnswer) → a ≡ head_of r → (kind : ℕ) → kind ≡ a.kind →
+    ◌≡◌ {A = ValueMask} (record { kind = kind; number = a.number; place = a.place; values = result_unwrap_or r 0 }) (values_of (told_values r))
 unfolding values_of answer_of kind_of number_of place_of value_of
-value_mask (Ok m) = refl
-value_mask (Err (InFile f)) = refl
-value_mask (Err (InCall e)) = refl
+value_mask (Ok m) a e kind k = rw (k, e) refl
+value_mask (Err (InFile f)) a e kind k = rw (k, e) refl
+value_mask (Err (InCall d)) a e kind k = rw (k, e) refl
 
 pub formula_judgement : (r : Result JudgedFormula Refusal) (j : JudgedFormula) → ResultUnwrapsOrElse r (λ z. (z.won ≡ false) × (z.length ≡ 0)) j →
     let a = head_of r in

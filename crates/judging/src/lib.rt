@@ -13,7 +13,7 @@ mod tests;
 use position::Position;
 use refusal::{Reason, Refusal};
 use rule_set::RuleSet;
-use search_run::{Ran, Start, run};
+use search_run::{Ran, Start, room_needed, run};
 use solver_arrays::Arrays;
 use ternary_decoder::decode_ordinary;
 use tests::place_test;
@@ -25,7 +25,7 @@ fn search_with(arrays: &Arrays, p: Position, set: RuleSet, room: &mut [u16]) -> 
     ensures { Places arrays.now p set.bits
         room.old room.new result }
 {
-    place_test(arrays, p, room)?;
+    place_test(arrays, p, room_needed(arrays.n), room.len())?;
     Ok(run(arrays, Start { set, position: p }, room))
 }
 
@@ -45,7 +45,8 @@ pub fn search(f: &[u8], p: Position, set: usize, room: &mut [u16]) -> Result<Ran
     ensures result_value { found result ≡ search_found f.now p set (length room.old) }
     ensures room_after { room.new ≡ judge_left f.now p set room.old }
 {
-    let arrays = decode_ordinary(f)?;
+    let mut arrays = Arrays::empty();
+    decode_ordinary(f, &mut arrays)?;
     Ok(search_in(&arrays, p, set, room)?)
 }
 

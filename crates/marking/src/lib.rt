@@ -4,7 +4,6 @@
 
 ghost use Rattle.std.specs.Prelude.{◌≡◌, length};
 ghost use Rattle.solver_arrays.specs.Arrays.{Posed};
-ghost use Rattle.search_run.specs.Run.{room_words};
 ghost use Rattle.marking.specs.Marking.{told, mark_place_test, mark_told, mark_left, MarksWith, MarksIn};
 
 mod values;
@@ -13,7 +12,7 @@ use judging::room_test;
 use position::{Position, fit_test};
 use refusal::{Reason, Refusal, needed};
 use rule_set::RuleSet;
-use search_run::Start;
+use search_run::{Start, room_needed};
 use solver_arrays::Arrays;
 use ternary_decoder::decode_ordinary;
 use values::winning_values;
@@ -26,12 +25,12 @@ pub struct Marks {
 }
 
 // The tests of marking behind the rule set: 23, 22, 12.
-fn mark_test(arrays: &Arrays, p: Position, room: &[u16]) -> Result<(), Reason>
-    ensures { result ≡ mark_place_test arrays.now.own arrays.now.domains p (room_words arrays.now.n) (length room.now) }
+fn mark_test(arrays: &Arrays, p: Position, room: usize, words: usize) -> Result<(), Reason>
+    ensures { result ≡ mark_place_test arrays.now.own arrays.now.domains p room words }
 {
     fit_test(arrays.own, &arrays.domains, p)?;
     needed(p.plays < arrays.own, Reason::Done)?;
-    room_test(arrays, room)
+    room_test(room, words)
 }
 
 // Marks under a rule set over the arrays of a problem.
@@ -40,7 +39,7 @@ fn mark_with(arrays: &Arrays, p: Position, set: RuleSet, room: &mut [u16]) -> Re
     ensures { MarksWith arrays.now p set.bits
         room.old room.new result }
 {
-    mark_test(arrays, p, room)?;
+    mark_test(arrays, p, room_needed(arrays.n), room.len())?;
     Ok(winning_values(arrays, Start { set, position: p }, room))
 }
 
@@ -59,6 +58,7 @@ pub fn mark(f: &[u8], p: Position, set: usize, room: &mut [u16]) -> Result<Marks
     ensures result_value { told result ≡ mark_told f.now p set (length room.old) }
     ensures room_after { room.new ≡ mark_left f.now p set room.old }
 {
-    let arrays = decode_ordinary(f)?;
+    let mut arrays = Arrays::empty();
+    decode_ordinary(f, &mut arrays)?;
     Ok(mark_in(&arrays, p, set, room)?)
 }

@@ -19,7 +19,11 @@ pub fn forward_in(
     let mut w = words_of(list);
     let named = forward(arrays, x, a, &mut w).named;
     put_back(&w, list);
-    Ok(named)
+    // Taken apart, so that an edit that names another variable is refused for the fact.
+    match named {
+        None => Ok(None),
+        Some(j) => Ok(Some(j)),
+    }
 }
 
 // The value that look ahead names at a loss, and the variable that its check names.
@@ -28,5 +32,12 @@ pub fn ahead_in(arrays: &Arrays, list: &[u16], x: usize) -> Result<Option<Ahead>
 {
     variable_test(arrays, list, x)?;
     let w = words_of(list);
-    Ok(look_ahead(arrays, x, &w))
+    // Taken apart, so that an edit that exchanges the two names is refused for the fact.
+    match look_ahead(arrays, x, &w) {
+        None => Ok(None),
+        Some(h) => Ok(Some(Ahead {
+            value: h.value,
+            variable: h.variable,
+        })),
+    }
 }

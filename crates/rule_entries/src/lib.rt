@@ -15,6 +15,7 @@ use narrow_alone::{interchangeable_in, pure_in};
 use refusal::Refusal;
 pub use rule_forward::Ahead;
 pub use rule_narrow::PureNames;
+use solver_arrays::Arrays;
 use ternary_decoder::decode_ordinary;
 
 // Rule 1: whether it is a loss. The list is left without dead values, also in a loss.
@@ -22,7 +23,8 @@ pub fn arc(f: &[u8], list: &mut [u16]) -> Result<bool, Refusal>
     ensures result_value { told result ≡ arc_told f.now list.old }
     ensures list_after { list.new ≡ arc_left f.now list.old }
 {
-    let arrays = decode_ordinary(f)?;
+    let mut arrays = Arrays::empty();
+    decode_ordinary(f, &mut arrays)?;
     Ok(arc_in(&arrays, list)?)
 }
 
@@ -37,7 +39,8 @@ pub fn forward_check(
     ensures result_value { told_check result ≡ forward_told f.now list.old x a }
     ensures list_after { list.new ≡ forward_left f.now list.old x a }
 {
-    let arrays = decode_ordinary(f)?;
+    let mut arrays = Arrays::empty();
+    decode_ordinary(f, &mut arrays)?;
     Ok(forward_in(&arrays, list, x, a)?)
 }
 
@@ -45,7 +48,8 @@ pub fn forward_check(
 pub fn look_ahead(f: &[u8], list: &[u16], x: usize) -> Result<Option<Ahead>, Refusal>
     ensures { told_look result ≡ ahead_told f.now list.now x }
 {
-    let arrays = decode_ordinary(f)?;
+    let mut arrays = Arrays::empty();
+    decode_ordinary(f, &mut arrays)?;
     Ok(ahead_in(&arrays, list, x)?)
 }
 
@@ -55,7 +59,8 @@ pub fn pure(f: &[u8], list: &[u16], x: usize) -> Result<PureNames, Refusal>
     ensures told { told_pure result ≡ pure_told f.now list.now x }
     ensures shown { names_shown result ≡ pure_shown f.now list.now x }
 {
-    let arrays = decode_ordinary(f)?;
+    let mut arrays = Arrays::empty();
+    decode_ordinary(f, &mut arrays)?;
     Ok(pure_in(&arrays, list, x)?)
 }
 
@@ -63,6 +68,7 @@ pub fn pure(f: &[u8], list: &[u16], x: usize) -> Result<PureNames, Refusal>
 pub fn interchangeable(f: &[u8], list: &[u16], x: usize) -> Result<u16, Refusal>
     ensures { told_values result ≡ interchangeable_told f.now list.now x }
 {
-    let arrays = decode_ordinary(f)?;
+    let mut arrays = Arrays::empty();
+    decode_ordinary(f, &mut arrays)?;
     Ok(interchangeable_in(&arrays, list, x)?)
 }

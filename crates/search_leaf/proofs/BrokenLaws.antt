@@ -1,6 +1,6 @@
 -- The first clash of all, in a problem that the arrays state, is its first broken constraint.
 use mathlib.Core.Path.{◌≡◌, refl, sym, ap, ap₂, subst, ◌∙◌}
-use mathlib.Core.Bool.{Bool, true, false, cond, not, ◌&&◌, and-false}
+use mathlib.Core.Bool.{Bool, true, false, cond, not, ◌&&◌, ◌||◌, and-false}
 use mathlib.Core.List.{List}
 use Prim.Native.Nat.{ℕ, ◌+◌, ◌^◌, ◌<◌}
 use native.Mathlib.Omega.{arith}
@@ -14,7 +14,7 @@ use Rattle.mask.specs.Range.{some, each, first}
 use Rattle.mask.specs.Mask.{bit, above}
 use Rattle.mask.proofs.Logic.{holds, fails, true_holds, clash, test, by_eq, by_lt, and_in, and_out}
 use Rattle.mask.proofs.Range.{each_in, each_out, some_in, some_out, first_of, first_least, first_is}
-use Rattle.mask.proofs.Bits.{bit-bit_and, bit_single, bit_of_zero, bit_none}
+use Rattle.mask.proofs.Bits.{bit-bit_and, bit-bit_or, bit_single, bit_of_zero, bit_none}
 use Rattle.mask.proofs.Members.{bit-above}
 use Rattle.game.specs.Problem.{Problem}
 use Rattle.game.specs.Game.{satisfied}
@@ -38,6 +38,14 @@ missing r b =
 
     off : (k : ℕ) → bit r b ≡ false → (bit r k && eqb k b) ≡ false
     off k e = by_eq k b (λ d. rw (d, e)) (λ d. ap (λ x. bit r k && x) (ne_eqb k b d) ∙ and-false (bit r k))
+
+-- The two variables of a broken constraint are not nothing.
+pub broken-some : (P : Problem) (p : List ℕ) → ¬ (first_broken P p ≡ 0)
+unfolding first_broken
+broken-some P p z =
+    let x = first P.n (λ x. some P.n (λ y. true) (broken P p x)) in
+    let y = first P.n (broken P p x) in
+    clash (sym (ap (λ b. b || bit (2 ^ y) x) (bit_single x x ∙ eq-eqb x x refl)) ∙ sym (bit-bit_or (2 ^ x) (2 ^ y) x) ∙ ap (λ m. bit m x) z ∙ bit_of_zero x) tt
 
 module _ (P : Problem) (n : ℕ) (A : Arrays) (S : States P n A) (w p : List ℕ) (Q : Plays n w p) where
   -- The test of x against y in the arrays.

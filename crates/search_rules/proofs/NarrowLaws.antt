@@ -169,6 +169,10 @@ module _ (n c d : ℕ) (on : Bool) (narrowed : ℕ) (z : ¬ (c ≡ 0)) (e : c + 
       let q = or_out_false (bit narrowed k) (bit s k) (sym (bit-bit_or narrowed s k) ∙ b) in
       (z, e, q.0, λ i. absurd (clash (sym (bit_single c k) ∙ sym (ap (λ m. bit m k) f) ∙ q.1) (true_holds (eq-eqb k c i))))
 
+-- All variables.
+pub calm_all : (n : ℕ) (A : Arrays) (r : ℕ) (w : List ℕ) → ((k : ℕ) → bit r k ≡ ltb k n) → CalmBut n r A w
+calm_all n A r w h x k lx lk b = absurd (clash b (true_holds (h k ∙ lt-ltb k n lk)))
+
 -- After rule 2 no other variable has an effect.
 module _ (n : ℕ) (A : Arrays) (S c d m r : ℕ) (w v : List ℕ) (small : (k : ℕ) → get_or v k 0 < 65536) (s : Settled n A S c d w)
     (t : Narrowed n c d m w v) (checks : Bool) (g : checks ≡ true → c + 1 ≡ d → Heeded n A c w v) (o : Outside n c d checks m r) where

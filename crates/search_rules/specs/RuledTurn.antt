@@ -9,6 +9,8 @@ use Rattle.solver_arrays.specs.Arrays.{States}
 use Rattle.solver_arrays.specs.Words.{list_in, why_in, holding, Nonzero}
 use Rattle.rule_arc.specs.ArcRule.{Calm}
 use Rattle.solver_arrays.specs.declared.arrays.Arrays.{Arrays}
+use Rattle.search_rules.specs.declared.Rule.{Rule}
+use Rattle.search_rules.specs.declared.Rule.TheVariants.{Checks, Arc}
 
 -- The words hold the list and the reasons of the step o, n of each; the reply is its loss and, where it is lost, its conflict set.
 pub record Replied (n : ℕ) (entry exit : List ℕ) (lost : Bool) (conflict : ℕ) (o : Step) : Type 0 where
@@ -91,6 +93,11 @@ module _ (n : ℕ) (A : Arrays) where
   abbrev pub AheadTurn : (on : Bool) (d : ℕ) (w : List ℕ) (lost : Bool) (conflict : ℕ) → Type 0
   AheadTurn on d w lost conflict =
       (P : Problem) → States P n A → Replied n w w lost conflict (choose on (explain_ahead P d) (list_in n w) (why_in n w))
+
+  -- Rule 2, or else rule 1.
+  abbrev pub RuleTurn : Rule → (on : Bool) (c d : ℕ) (w w' : List ℕ) (lost : Bool) (conflict narrowed : ℕ) → Type 0
+  RuleTurn Checks on c d w w' lost conflict narrowed = ChecksTurn on c d w w' lost conflict narrowed
+  RuleTurn Arc on c d w w' lost conflict narrowed = ArcTurn on w w' lost conflict
 
   -- All rules of the turn, by the rule set.
   pub record RuledTurn (set c d : ℕ) (w w' : List ℕ) (lost : Bool) (conflict : ℕ) : Type 0 where

@@ -9,13 +9,20 @@ ghost use Rattle.solver_arrays.specs.Words.{Nonzero};
 ghost use Rattle.rule_arc.specs.ArcRule.{CalmBut};
 ghost use Rattle.search_rules.specs.Reply.{narrowed_of};
 ghost use Rattle.solver_arrays.specs.Words.{conflict_of};
-ghost use Rattle.search_rules.specs.RuledTurn.{Stated, Outside, Settled, CheckedPlay, ChecksTurn, ArcTurn, AheadTurn, RuledTurn};
+ghost use Rattle.search_rules.specs.declared.Rule.TheVariants.{Arc};
+ghost use Rattle.search_rules.specs.RuledTurn.{Stated, Outside, Settled, CheckedPlay, ChecksTurn, ArcTurn, AheadTurn, RuleTurn, RuledTurn};
 
 use mask::{everyone, lowest, single};
 use rule_arc::arc;
 use rule_forward::{forward, forward_conflict, look_ahead};
 use rule_set::RuleSet;
 use solver_arrays::{Arrays, Loss};
+
+// Rule 2, which checks the plays, and rule 1.
+enum Rule {
+    Checks,
+    Arc,
+}
 
 // Rule 2 for the play of variable x: the other variables that it takes values from.
 fn check_play(arrays: &Arrays, x: usize, w: &mut [u16]) -> Result<u32, Loss>
@@ -99,6 +106,31 @@ fn arc_turn(arrays: &Arrays, on: bool, changed: u32, w: &mut [u16]) -> Result<()
     if on { arc(arrays, changed, w) } else { Ok(()) }
 }
 
+// Rule 2, or else rule 1, where it is on. `changed` is for rule 1.
+fn rule_turn(
+    rule: Rule,
+    arrays: &Arrays,
+    on: bool,
+    changed: u32,
+    c: usize,
+    d: usize,
+    w: &mut [u16],
+) -> Result<u32, Loss>
+    requires { (c ≤ d) × (d ≤ arrays.now.n) × (96 ≤ length w.old) × Nonzero arrays.now.n w.old
+        × Stated arrays.now.n arrays.now
+        × (rule ≡ Arc → on ≡ true → CalmBut arrays.now.n changed arrays.now w.old) }
+    ensures { RuleTurn arrays.now.n arrays.now rule on c d
+        w.old w.new (is_err result) (conflict_of result) (narrowed_of result) }
+{
+    match rule {
+        Rule::Checks => checks_turn(arrays, on, c, d, w),
+        Rule::Arc => {
+            arc_turn(arrays, on, changed, w)?;
+            Ok(0)
+        }
+    }
+}
+
 // Rule 3 at variable d where it is on.
 fn ahead_turn(arrays: &Arrays, on: bool, d: usize, w: &[u16]) -> Result<(), Loss>
     requires { (on ≡ true → d < arrays.now.n) × (96 ≤ length w.now) × Nonzero arrays.now.n w.now
@@ -131,9 +163,9 @@ pub fn run_rules(
         w.old w.new (is_err result) (conflict_of result) }
 {
     let checked = set.uses(2);
-    let narrowed = checks_turn(arrays, checked, c, d, w)?;
+    let narrowed = rule_turn(Rule::Checks, arrays, checked, everyone(arrays.n), c, d, w)?;
     let changed = changed_by(arrays, c, d, checked, narrowed);
     let used = set.uses(1);
-    arc_turn(arrays, used, changed, w)?;
+    rule_turn(Rule::Arc, arrays, used, changed, c, d, w)?;
     ahead_turn(arrays, ahead_used(set, arrays.n, d), d, w)
 }

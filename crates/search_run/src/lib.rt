@@ -34,14 +34,15 @@ pub struct Ran {
     pub leaf: [u16; 32],
 }
 
-// The words that every file's search can do with, for the entries that hold their own room: those of 32 variables.
+// The words that every file's search can do with, for the entries that hold their own room: `room_needed(32)`.
 pub const ROOM: usize = 4224;
 
-// How many words a search over the arrays has.
-pub fn room_needed(arrays: &Arrays) -> usize
-    ensures { result ≡ room_words arrays.now.n }
+// How many words a search of n variables has.
+pub fn room_needed(n: usize) -> usize
+    requires { n ≤ 32 }
+    ensures { result ≡ room_words n }
 {
-    128 * (arrays.n + 1)
+    128 * (n + 1)
 }
 
 // The search in the room of its first turn, whose words are zero before and afterwards.
@@ -70,7 +71,7 @@ pub fn run(arrays: &Arrays, s: Start, room: &mut [u16]) -> Ran
     ensures { Runs arrays.now s.set.bits s.position result
         × (room.new ≡ zeroed 0 (room_words arrays.now.n) room.old) }
 {
-    zero_words(0, room_needed(arrays), room);
+    zero_words(0, room_needed(arrays.n), room);
     let d = s.position.plays;
     run_in(arrays, s, &mut room[128 * d..])
 }

@@ -17,6 +17,7 @@ use open::open_in;
 use plays::{lock_in, play_in, take_back_in, unlock_in};
 use position::Position;
 use refusal::Refusal;
+use solver_arrays::Arrays;
 
 // The open values of each variable, those still usable, as a mask, and how many they are. Zero at n and above.
 #[derive(Clone, Copy)]
@@ -73,6 +74,7 @@ pub fn open_values(f: &[u8], p: Position) -> Result<Opened, Refusal>
     ensures result_value { told_opened result ≡ open_told f.now p }
     ensures masks_value { (masks_in result ≡ masks_shown f.now p) × (counts_in result ≡ counts_shown f.now p) }
 {
-    let arrays = decode(f)?;
+    let mut arrays = Arrays::empty();
+    decode(f, &mut arrays)?;
     Ok(open_in(&arrays, p)?)
 }

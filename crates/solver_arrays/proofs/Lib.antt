@@ -8,3 +8,5 @@ pub mod PosedLaws
 pub mod GoingLaws
 -- What the arrays state of the neighbours.
 pub mod Stated
+-- Words that are all zero.
+pub mod EmptyLaws

@@ -1,6 +1,6 @@
 -- The arrays of a problem. The word 32 i + j of the index is the number of the block of rows from i towards j, 0 where no constraint joins
 -- them; block e has 16 rows from 16 e on, and block 0 holds ones only, so a free pair needs no test. near holds each variable's neighbours as a mask.
-use Rattle.std.specs.Prelude.{◌≡◌, ℕ, ◌+◌, ◌*◌, ◌≤◌, ◌<◌, get_or, take}
+use Rattle.std.specs.Prelude.{◌≡◌, ℕ, ◌+◌, ◌*◌, ◌≤◌, ◌<◌, get_or, take, replicate}
 use Rattle.mask.specs.Range.{some, each}
 use Rattle.mask.specs.Mask.{bit, mask_of}
 use Rattle.game.specs.Problem.{Problem}
@@ -16,6 +16,16 @@ supported_in A i m j = mask_of 16 (λ b. some 16 (bit m) (λ a. bit (row_in A i 
 
 unfoldable pub common_in : Arrays → ℕ → ℕ → ℕ → ℕ
 common_in A i m j = mask_of 16 (λ b. each 16 (bit m) (λ a. bit (row_in A i a j) b))
+
+-- The arrays of one variable without a value, none of which is to play, and no constraint.
+pub record Empty (A : Arrays) : Type 0 where
+  pub own : A.own ≡ 0
+  pub n : A.n ≡ 1
+  pub universal : A.universal ≡ 0
+  pub domains : A.domains ≡ replicate 32 0
+  pub near : A.near ≡ replicate 32 0
+  pub index : A.index ≡ replicate 1024 0
+  pub rows : A.rows ≡ replicate 15888 65535
 
 -- The arrays state the problem P, of n variables.
 pub record States (P : Problem) (n : ℕ) (A : Arrays) : Type 0 where

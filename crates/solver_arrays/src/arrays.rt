@@ -28,8 +28,23 @@ pub struct Arrays {
 impl Arrays {
     ghost use Rattle.std.specs.Prelude.{◌≡◌, get_or};
     ghost use Rattle.mask.specs.Mask.{above};
-    ghost use Rattle.solver_arrays.specs.Arrays.{row_in, common_in};
+    ghost use Rattle.solver_arrays.specs.Arrays.{row_in, common_in, Empty};
     ghost use Rattle.solver_arrays.specs.Going.{going_with};
+
+    // One variable without a value and not to play, and no constraint: what a file is decoded into.
+    pub fn empty() -> Arrays
+        ensures { Empty result }
+    {
+        Arrays {
+            own: 0,
+            n: 1,
+            universal: 0,
+            domains: [0; 32],
+            near: [0; 32],
+            index: [0; 1024],
+            rows: [65535; ROWS],
+        }
+    }
 
     // The neighbours of x, as a mask.
     pub fn neighbours(&self, x: usize) -> u32

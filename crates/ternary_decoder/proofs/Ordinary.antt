@@ -12,9 +12,9 @@ use Rattle.solver_arrays.specs.Arrays.{Poses}
 use Rattle.game.specs.Ternary.{TernaryProblem}
 use Rattle.ternary_theory.specs.Expanded.{domain_with, length-with, domain_own, expanded}
 use Rattle.ternary_theory.proofs.Parts.{own_pair, own_joined, own_side}
-use Rattle.std.specs.Prelude.{Result, Ok, Err}
+use Rattle.std.specs.Prelude.{Err}
 use Rattle.refusal.specs.declared.reason.Fault.{Fault}
-use Rattle.refusal.specs.Chain.{Fine}
+use Rattle.refusal.specs.Chain.{Verdict, Fine}
 use Rattle.file_reader.specs.Reading.{n_of, m_of, verdict_of}
 use Rattle.file_constraints.specs.Ternaries.{after_constraints, t_of, Ternaries}
 use Rattle.file_constraints.proofs.TernaryLaws.{ternaries_stand}
@@ -22,7 +22,7 @@ use Rattle.file_decoder.specs.FileProblem.{problem_of, ternary_of, record_at, or
 use Rattle.file_decoder.proofs.Stated.{BinaryStated}
 use Rattle.ternary_decoder.specs.Tables.{Adds}
 use Rattle.ternary_decoder.specs.Stated.{TernaryStated}
-use Rattle.ternary_decoder.specs.Decoded.{OrdinaryGiven, DecodesOrdinary}
+use Rattle.ternary_decoder.specs.Decoded.{DecodesOrdinary}
 use Rattle.ternary_decoder.proofs.Steps.{OfRecord, next}
 
 -- ---- all of them
@@ -113,22 +113,23 @@ pub ready : (f : List ℕ) (q n t : ℕ) → verdict_of f ≡ Fine → q ≡ aft
 ready f q n t fine x y z = rw (x, y, z) (ternaries_stand f fine)
 
 -- A refused file.
-pub leaves : (f : List ℕ) (e : Fault) (r : Result Arrays Fault) → verdict_of f ≡ Err e → r ≡ Err e → DecodesOrdinary f r
-leaves f e r q t = record {
-  given = λ d g. absurd (cc);
+pub leaves : (f : List ℕ) (A : Arrays) (e : Fault) (r : Verdict) → verdict_of f ≡ Err e → r ≡ Err e → DecodesOrdinary f A r A
+leaves f A e r q t = record {
+  given = λ g. absurd (cc);
   refused = λ k g. cc;
+  kept = λ k g. refl;
 }
 
 -- An accepted one is entered whole.
-pub enters : (f : List ℕ) (fine : verdict_of f ≡ Fine) (A : Arrays) → TernaryStated (ternary_of f fine) (m_of f) (t_of f) A → DecodesOrdinary f (Ok A)
+pub enters : (f : List ℕ) (B : Arrays) (fine : verdict_of f ≡ Fine) (A : Arrays) → TernaryStated (ternary_of f fine) (m_of f) (t_of f) A → DecodesOrdinary f B Fine A
 unfolding ternary_of problem_of ordinary_of
-enters f fine A S = record {
-  given = λ B z.
-      subst (OrdinaryGiven f) {x = A} (cc) record {
-        fine = fine;
-        size = S.own;
-        poses = last (ternary_of f fine) (m_of f) A S;
-        domain = own_domain (ternary_of f fine) (m_of f) A S;
-      };
+enters f B fine A S = record {
+  given = λ z. record {
+    fine = fine;
+    size = S.own;
+    poses = last (ternary_of f fine) (m_of f) A S;
+    domain = own_domain (ternary_of f fine) (m_of f) A S;
+  };
   refused = λ k z. absurd (cc);
+  kept = λ k z. absurd (cc);
 }

@@ -15,15 +15,15 @@ use file_reader::read;
 use refusal::Fault;
 use solver_arrays::Arrays;
 
-// The arrays of an accepted file's ordinary problem; the file's own variables are to play.
-pub fn decode_ordinary(f: &[u8]) -> Result<Arrays, Fault>
-    ensures { DecodesOrdinary f.now result }
+// The arrays get an accepted file's ordinary problem; the file's own variables are to play. A refused file leaves them.
+pub fn decode_ordinary(f: &[u8], arrays: &mut Arrays) -> Result<(), Fault>
+    ensures { DecodesOrdinary f.now arrays.old result arrays.new }
 {
     let r = read(f)?;
-    let mut arrays = unconstrained(&r);
+    unconstrained(&r, arrays);
     let q = constraints_at(f);
     let m = r.head.m as usize;
-    put_constraints(f, q, m, &mut arrays);
-    put_ternaries(f, q + 36 * m, m, r.head.t as usize, &mut arrays);
-    Ok(arrays)
+    put_constraints(f, q, m, arrays);
+    put_ternaries(f, q + 36 * m, m, r.head.t as usize, arrays);
+    Ok(())
 }

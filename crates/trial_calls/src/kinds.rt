@@ -1,4 +1,6 @@
 // The kinds of call.
+use trial_stored::{JUDGE, MARK, OPEN, PLAY, TAKE_BACK};
+
 #[derive(Clone, Copy, PartialEq, Eq)]
 pub enum Kind {
     Play,
@@ -12,11 +14,11 @@ impl Kind {
     // As stored calls number them.
     pub fn of(number: usize) -> Option<Kind> {
         match number {
-            0 => Some(Kind::Play),
-            1 => Some(Kind::TakeBack),
-            2 => Some(Kind::Mark),
-            3 => Some(Kind::Open),
-            4 => Some(Kind::Judge),
+            PLAY => Some(Kind::Play),
+            TAKE_BACK => Some(Kind::TakeBack),
+            MARK => Some(Kind::Mark),
+            OPEN => Some(Kind::Open),
+            JUDGE => Some(Kind::Judge),
             _ => None,
         }
     }

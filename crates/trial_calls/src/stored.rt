@@ -55,7 +55,8 @@ impl<'a> Call<'a> {
         let number = s.byte();
         let place = s.word();
         let length = s.byte();
-        let shown = Stored::new(s.part(length));
+        let shown = *s;
+        s.part(length);
         let answer = if number == 0 {
             Ok(reply(kind, shown))
         } else {

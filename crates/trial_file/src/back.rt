@@ -21,7 +21,7 @@ fn put_shown(out: &mut [u16; 8928], c: usize, f: &[u8], i: usize, j: usize) -> u
 }
 
 fn put_all(out: &mut [u16; 8928], f: &[u8]) {
-    let n = byte(f, 2);
+    let n = byte(f, 2).min(32);
     let mut c = 0;
     for i in 0..n {
         for j in i + 1..n {

@@ -1,10 +1,14 @@
 // The boundary rows of document 01 ("By program only"): small files made here, and what reading tells of each.
+ghost use Rattle.std.specs.Prelude.{◌≤◌, ◌+◌};
+
 use crate::reading::agrees;
 use buffer::Text;
 use trial_vectors::{Refused, Tally, front};
 
 // The record RS, if there is one.
-fn put_rules(t: &mut Text, rules: Option<u8>) {
+fn put_rules(t: &mut Text, rules: Option<u8>)
+    ensures { t.new.at ≤ t.old.at + 3 }
+{
     if let Some(k) = rules {
         t.put(&[b'R', b'S', k]);
     }
@@ -18,7 +22,9 @@ fn put_variables(t: &mut Text, n: u8) {
 }
 
 // One constraint of the pair (0, 1) with empty rows, where m is not 0.
-fn put_constraint(t: &mut Text, m: u8) {
+fn put_constraint(t: &mut Text, m: u8)
+    ensures { t.new.at ≤ t.old.at + 36 }
+{
     if m != 0 {
         t.put(b"CT\x00\x01");
         t.put(&[0; 32]);

@@ -11,34 +11,36 @@ mod reading;
 use std::io;
 use trial_vectors::{Refused, Stored, Tally, all_cases, input, report};
 
-// A stored file, and what reading it tells.
+// A stored file, and the number and the place that reading it tells; the number is 0 for an accepted file.
 #[derive(Clone, Copy)]
 struct Case<'a> {
     file: &'a [u8],
-    told: Result<(), Refused>,
+    number: usize,
+    place: usize,
 }
 
 fn next_case<'a>(s: &mut Stored<'a>) -> Case<'a> {
-    let file = s.file();
-    let number = s.byte();
-    let place = s.word();
-    let told = if number == 0 && place == 0 {
-        Ok(())
-    } else {
-        Err(Refused::file(number, place))
-    };
-    Case { file, told }
+    Case {
+        file: s.file(),
+        number: s.byte(),
+        place: s.word(),
+    }
 }
 
 fn read(s: &mut Stored, t: Tally) -> Tally {
     let c = next_case(s);
-    t.counted(reading::agrees(c.file, c.told))
+    let told = if c.number == 0 && c.place == 0 {
+        Ok(())
+    } else {
+        Err(Refused::file(c.number, c.place))
+    };
+    t.counted(reading::agrees(c.file, told))
 }
 
 // Every pair of an accepted file.
 fn looked_up(s: &mut Stored, t: Tally) -> Tally {
     let c = next_case(s);
-    if c.told.is_ok() {
+    if c.number == 0 {
         pairs::all_pairs(c.file, t)
     } else {
         t
@@ -48,7 +50,7 @@ fn looked_up(s: &mut Stored, t: Tally) -> Tally {
 // An accepted file.
 fn written(s: &mut Stored, t: Tally) -> Tally {
     let c = next_case(s);
-    if c.told.is_ok() {
+    if c.number == 0 {
         t.counted(back::comes_back(c.file))
     } else {
         t

@@ -21,8 +21,10 @@ fn agrees(f: &[u8], i: usize, j: usize, rows_at: Option<usize>) -> bool {
 pub fn all_pairs(f: &[u8], mut t: Tally) -> Tally {
     let n = byte(f, 2);
     let mut next = first_variable(f) + 4 * n;
-    for i in 0..n {
-        for j in i + 1..n {
+    // A file that says more than 32 is refused, whatever its case says.
+    let most = n.min(32);
+    for i in 0..most {
+        for j in i + 1..most {
             let p = place(next);
             let rows_at = stands(f, p, i, j).then_some(p + 4);
             t = t.counted(agrees(f, i, j, rows_at));

@@ -28,7 +28,8 @@ impl<'a> Game<'a> {
         let position = played(s);
         let won = s.byte();
         let winning = s.word();
-        let open = Stored::new(s.part(3 * byte(file, 2)));
+        let open = *s;
+        s.part(3 * byte(file, 2));
         Game {
             file,
             position,

@@ -7,18 +7,19 @@ mod same;
 
 use file_decoder::decode;
 use same::state_alike;
+use solver_arrays::Arrays;
 use std::io;
 use ternary_decoder::decode_ordinary;
 use trial_vectors::{Stored, Tally, all_cases, byte, input, report};
 
 // Whether the first file's arrays are the second's, and its own variables are to play.
 fn decodes_alike(f: &[u8], ordinary: &[u8]) -> bool {
-    let a = decode_ordinary(f).ok();
-    let b = decode(ordinary).ok();
-    match (a, b) {
-        (Some(x), Some(y)) => x.own == byte(f, 2) && state_alike(&x, &y),
-        (_, _) => false,
-    }
+    let mut a = Arrays::empty();
+    let mut b = Arrays::empty();
+    decode_ordinary(f, &mut a).is_ok()
+        && decode(ordinary, &mut b).is_ok()
+        && a.own == byte(f, 2)
+        && state_alike(&a, &b)
 }
 
 fn compared(s: &mut Stored, t: Tally) -> Tally {

@@ -9,3 +9,14 @@ mod rooms;
 pub use opened::opens;
 pub use positions::played;
 pub use rooms::{judges, marks, needed};
+
+// The kinds of call, as stored calls number them.
+pub const PLAY: usize = 0;
+
+pub const TAKE_BACK: usize = 1;
+
+pub const MARK: usize = 2;
+
+pub const OPEN: usize = 3;
+
+pub const JUDGE: usize = 4;

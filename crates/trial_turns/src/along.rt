@@ -63,6 +63,7 @@ fn ruled_in(arrays: &Arrays, set: RuleSet, p: Position) -> Option<u32>
 // The same in the turn after the plays of p, in a search from the start under the set of this number; none where one of them is refused.
 pub fn ruled_along(f: &[u8], p: Position, set: usize) -> Option<u32> {
     let set = RuleSet::new(set).ok()?;
-    let arrays = decode_ordinary(f).ok()?;
+    let mut arrays = Arrays::empty();
+    decode_ordinary(f, &mut arrays).ok()?;
     ruled_in(&arrays, set, p)
 }

@@ -14,7 +14,7 @@ use std::io;
 use std::io::{Input, Write};
 pub use stored::Stored;
 
-// How many cases were compared and differed.
+// How many cases were compared and differed: each up to a million.
 #[derive(Clone, Copy, Default)]
 pub struct Tally {
     pub compared: usize,
@@ -25,10 +25,14 @@ impl Tally {
     // One more case compared.
     pub fn counted(self, agrees: bool) -> Tally {
         Tally {
-            compared: self.compared.saturating_add(1),
-            differing: self.differing.saturating_add(!agrees as usize),
+            compared: one_more(self.compared, true),
+            differing: one_more(self.differing, !agrees),
         }
     }
+}
+
+fn one_more(count: usize, more: bool) -> usize {
+    count.saturating_add(more as usize).min(1000000)
 }
 
 // The tally of all stored cases: their number stands at the front, and `one` reads the next.

@@ -27,10 +27,13 @@ impl<'a> Stored<'a> {
         byte(self.part(1), 0)
     }
 
+    // The last byte of all counts as a word with a zero behind it.
     pub fn word(&mut self) -> usize
         ensures { result < 65536 }
     {
-        word(self.part(2), 0)
+        let next = word(self.rest, 0);
+        self.part(2);
+        next
     }
 
     // A file: its length, and so many bytes.
@@ -41,8 +44,9 @@ impl<'a> Stored<'a> {
 
     // The next n bytes, the first 32 of them, and zeros behind.
     pub fn bytes(&mut self, n: usize) -> [u8; 32] {
-        let stored = self.part(n);
-        let k = stored.len().min(32);
+        let stored = self.rest;
+        self.part(n);
+        let k = stored.len().min(n).min(32);
         let mut out = [0; 32];
         out[..k].copy_from_slice(&stored[..k]);
         out
@@ -52,7 +56,8 @@ impl<'a> Stored<'a> {
     pub fn words(&mut self, n: usize) -> [u16; 32]
         requires { n < 256 }
     {
-        let stored = self.part(2 * n);
+        let stored = self.rest;
+        self.part(2 * n);
         let mut out = [0; 32];
         for k in 0..n.min(32) {
             out[k] = word(stored, 2 * k) as u16;

@@ -4,9 +4,9 @@ use Rattle.file_decoder.specs.Tables.{near_start, index_start, rows_start}
 use Rattle.file_decoder.proofs.Stated.{start_in_range}
 use Rattle.file_decoder.proofs.unconstrained.Goals as goal
 
-pub invariant_of-result : goal.invariant_of-result
+pub invariant_of-arrays : goal.invariant_of-arrays
 unfolding index_start
-invariant_of-result c = record { first = omega arith; most = c.requires.1; some = c.requires.0; in_range = start_in_range }
+invariant_of-arrays c = record { first = omega arith; most = c.requires.1; some = c.requires.0; in_range = start_in_range }
 
 pub returns : goal.returns
 unfolding near_start index_start rows_start

@@ -27,7 +27,7 @@ shows : (c : In_ok-reading) → Shows c.args.f.now c.in_ok-reading.reading.head
 shows c = header_shows _ _ (ap read_told (sym c.in_ok-reading.was) ∙ c.read.ensures.0)
 
 pub write_in-requires-clause-posed : goal.write_in-requires-clause-posed
-write_in-requires-clause-posed c = given_posed _ _ (c.decode_ordinary.ensures.given _ c.in_ok-decode_ordinary.was)
+write_in-requires-clause-posed c = given_posed _ _ (c.decode_ordinary.ensures.given c.in_ok-decode_ordinary.was)
 
 pub write_in-requires-clause-set : goal.write_in-requires-clause-set
 write_in-requires-clause-set c = set_fits _ _ (shows (goal.at.write_in-requires-clause-set c).In_ok-reading)
@@ -35,10 +35,10 @@ write_in-requires-clause-set c = set_fits _ _ (shows (goal.at.write_in-requires-
 pub returns-in_err-write_in : goal.returns-in_err-write_in
 returns-in_err-write_in c =
     let q : c.from_residual-in_err-write_in.result ≡ Err (InCall c.in_err-write_in.field-0.0) = search rules in
-    let o = shown_writes _ _ (c.decode_ordinary.ensures.given _ c.in_ok-decode_ordinary.was) _ (shows (goal.at.returns-in_err-write_in c).In_ok-reading) _ _ _ _ c.write_in.ensures in
+    let o = shown_writes _ _ (c.decode_ordinary.ensures.given c.in_ok-decode_ordinary.was) _ (shows (goal.at.returns-in_err-write_in c).In_ok-reading) _ _ _ _ c.write_in.ensures in
     record { result_value = ap told q ∙ sym (ap (told_by length_values reason_told) c.in_err-write_in.was) ∙ o.0; buf_after = o.1 }
 
 pub returns : goal.returns
 returns c =
-    let o = shown_writes _ _ (c.decode_ordinary.ensures.given _ c.in_ok-decode_ordinary.was) _ (shows (goal.at.returns c).In_ok-reading) _ _ _ _ c.write_in.ensures in
+    let o = shown_writes _ _ (c.decode_ordinary.ensures.given c.in_ok-decode_ordinary.was) _ (shows (goal.at.returns c).In_ok-reading) _ _ _ _ c.write_in.ensures in
     record { result_value = sym (ap (told_by length_values reason_told) c.in_ok-write_in.was) ∙ o.0; buf_after = o.1 }

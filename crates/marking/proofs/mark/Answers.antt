@@ -15,23 +15,23 @@ use Rattle.marking.proofs.mark.Goals.{Start}
 long : (c : Start) → length c.args.p.values ≡ 32
 long c = search rules
 
-pub returns-in_err-arrays : goal.returns-in_err-arrays
+pub returns-in_err-decode_ordinary : goal.returns-in_err-decode_ordinary
 unfolding mark_told mark_left
-returns-in_err-arrays c =
-    let q : c.from_residual.result ≡ Err (InFile c.in_err-arrays.field-0.0) = search rules in
-    let z = c.decode_ordinary.ensures.refused _ c.in_err-arrays.was in
+returns-in_err-decode_ordinary c =
+    let q : c.from_residual.result ≡ Err (InFile c.in_err-decode_ordinary.field-0.0) = search rules in
+    let z = c.decode_ordinary.ensures.refused _ c.in_err-decode_ordinary.was in
     record { result_value = ap told q ∙ sym (read_refused _ _ _ _ z); room_after = sym (read_refused _ _ _ _ z) }
 
 pub mark_in-requires : goal.mark_in-requires
-mark_in-requires c = ready_of _ _ (c.decode_ordinary.ensures.given _ c.in_ok-arrays.was)
+mark_in-requires c = ready_of _ _ (c.decode_ordinary.ensures.given c.in_ok-decode_ordinary.was)
 
 pub returns-in_err-mark_in : goal.returns-in_err-mark_in
 returns-in_err-mark_in c =
     let q : c.from_residual-in_err-mark_in.result ≡ Err (InCall c.in_err-mark_in.field-0.0) = search rules in
-    let w = marked-file _ _ (c.decode_ordinary.ensures.given _ c.in_ok-arrays.was) _ (long (goal.at.returns-in_err-mark_in c).Start) _ _ _ _ c.mark_in.ensures in
+    let w = marked-file _ _ (c.decode_ordinary.ensures.given c.in_ok-decode_ordinary.was) _ (long (goal.at.returns-in_err-mark_in c).Start) _ _ _ _ c.mark_in.ensures in
     record { result_value = ap told q ∙ sym (ap (told_by mark_values reason_told) c.in_err-mark_in.was) ∙ w.0; room_after = w.1 }
 
 pub returns : goal.returns
 returns c =
-    let w = marked-file _ _ (c.decode_ordinary.ensures.given _ c.in_ok-arrays.was) _ (long (goal.at.returns c).Start) _ _ _ _ c.mark_in.ensures in
+    let w = marked-file _ _ (c.decode_ordinary.ensures.given c.in_ok-decode_ordinary.was) _ (long (goal.at.returns c).Start) _ _ _ _ c.mark_in.ensures in
     record { result_value = sym (ap (told_by mark_values reason_told) c.in_ok-mark_in.was) ∙ w.0; room_after = w.1 }

@@ -18,22 +18,22 @@ use Rattle.ternary_decoder.proofs.decode_ordinary.Goals.{In_ok-r, After-put_cons
 shows : (c : In_ok-r) → Shows c.args.f.now c.in_ok-r.r.head
 shows c = header_shows _ _ (ap told (sym c.in_ok-r.was) ∙ c.read.ensures.0)
 
-pub unconstrained-arrays-requires : goal.unconstrained-arrays-requires
-unconstrained-arrays-requires c = shown_counts (shows (goal.at.unconstrained-arrays-requires c).In_ok-r)
+pub unconstrained-requires : goal.unconstrained-requires
+unconstrained-requires c = shown_counts (shows (goal.at.unconstrained-requires c).In_ok-r)
 
 pub put_constraints-requires : goal.put_constraints-requires
 put_constraints-requires c =
     let s = shows (goal.at.put_constraints-requires c).In_ok-r in constraints_ready _ _ _ s.fine c.constraints_at-q.ensures s.constraints
 
 pub returns-in_err-r : goal.returns-in_err-r
-returns-in_err-r c = leaves _ _ _ (header_refuses _ _ (ap told (sym c.in_err-r.was) ∙ c.read.ensures.0)) (search rules)
+returns-in_err-r c = leaves _ _ _ _ (header_refuses _ _ (ap told (sym c.in_err-r.was) ∙ c.read.ensures.0)) (search rules)
 
 -- What the arrays state when all constraints of two variables are entered.
 binary : (c : After-put_constraints) (s : Shows c.args.f.now c.in_ok-r.r.head) → BinaryStated c.args.f.now s.fine c.put_constraints.new.arrays
 binary c s =
     let e = c.put_constraints.ensures in
     entered _ _ c.in_ok-r.r _ _ (λ k. omega (arith, c.type_inv.f k)) s (ap domains_shown (sym c.in_ok-r.was) ∙ c.read.ensures.1) c.constraints_at-q.ensures
-    c.unconstrained-arrays.ensures e.others e.near_after e.index_after e.rows_after
+    c.unconstrained.ensures e.others e.near_after e.index_after e.rows_after
 
 pub overflow_add-q : goal.overflow_add-q
 overflow_add-q c =
@@ -65,4 +65,4 @@ returns c =
     let e =
     c.put_ternaries.ensures s.fine (behind_constraints _ _ _ c.constraints_at-q.ensures s.constraints) s.ternaries
     (subst (λ (m : ℕ). TernaryStated J m 0 c.put_constraints.new.arrays) (sym s.constraints) (start f s.fine _ b)) in
-    enters f s.fine B (subst (λ (m : ℕ). TernaryStated J m (t_of f) B) s.constraints (subst (λ (t : ℕ). TernaryStated J c.in_ok-r.r.head.m t B) s.ternaries e))
+    enters f _ s.fine B (subst (λ (m : ℕ). TernaryStated J m (t_of f) B) s.constraints (subst (λ (t : ℕ). TernaryStated J c.in_ok-r.r.head.m t B) s.ternaries e))

@@ -21,9 +21,8 @@ loop-k-preserved c = rw add-one (
 pub returns-in_err-constraint_test : goal.returns-in_err-constraint_test
 unfolding constraints_test
 returns-in_err-constraint_test c =
-    rw (← c.end-q.ensures)
-    ((search rules)
-    ∙ first_refusal (constraints_test _ _ _ _) (λ (k : ℕ). constraint_test _ _ _ (last_pair _ _ k) (_ + 36 * k)) (λ k. refl) _ _ c.loop-k-test.true c.loop-k.invariant.0 (cc) c.in_err-constraint_test.was)
+    (search rules)
+    ∙ first_refusal (constraints_test _ _ _ _) (λ (k : ℕ). constraint_test _ _ _ (last_pair _ _ k) (_ + 36 * k)) (λ k. refl) _ _ c.loop-k-test.true c.loop-k.invariant.0 (cc) c.in_err-constraint_test.was
 
 pub returns : goal.returns
-returns c = rw (← c.end-q.ensures) (sym (ap (constraints_test _ _ _ _) (omega arith) ∙ c.loop-k.invariant.0))
+returns c = sym (ap (constraints_test _ _ _ _) (omega arith) ∙ c.loop-k.invariant.0)

@@ -16,4 +16,4 @@ ok_of (Ok x) a s = ap (λ o. Ok (some_or x o)) s
 ok_of (Err e) a s = absurd (false≢true (ap is_some s))
 
 pub ruled_in-requires : goal.ruled_in-requires
-ruled_in-requires c = record { problem = _; states = (c.decode_ordinary.ensures.given c.in_ok-arrays.arrays (ok_of _ _ (search rules))).poses.states }
+ruled_in-requires c = record { problem = _; states = (c.decode_ordinary.ensures.given (ok_of _ _ (search rules))).poses.states }
