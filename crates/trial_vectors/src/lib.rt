@@ -14,7 +14,7 @@ use std::io;
 use std::io::{Input, Write};
 pub use stored::Stored;
 
-// How many cases were compared and differed: each up to a million.
+// How many cases were compared and differed, each counted up to a million.
 #[derive(Clone, Copy, Default)]
 pub struct Tally {
     pub compared: usize,
